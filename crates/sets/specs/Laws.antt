@@ -5,7 +5,7 @@ use mathlib.Core.Path.{_≡_, refl, sym, ap, ap₂, _∙_, subst}
 use mathlib.Core.Bool.{Bool, true, false, not, _&&_, _||_, true≢false}
 use mathlib.Core.Logic.{_⊎_, inl, inr, ⊎-elim, _↔_}
 use native.Mathlib.Nat.{one-mul, pow-suc, mod-lt, mod-one, mod-eq-of-lt, div-eq-of-lt, div-self, div-one, mod-self, add-div-left, add-mod-left, le-refl, lt-of-lt-of-le}
-use native.Mathlib.Numerals.{one-add}
+use native.Mathlib.Numerals.{one-add, add-one}
 use native.Mathlib.Decide.{decLt}
 use native.Mathlib.Omega.{arith}
 use lib.Dec.{eqb, leb, ltb}
@@ -13,7 +13,7 @@ use lib.Pow.{pow-pos, pow-mono, pow-lt, high, low, split, mod-pow-add, mod-mod-p
 use lib.Bits.{bitAnd, bitOr, and-shr, or-shr, and-mod, or-mod, or-lt, and-lt, or-disjoint}
 use lib.Count.{ones, ones-cat, trailingZeros, under}
 use borrow.Author.Tests.{eq-eqb, ne-eqb, eqb-true, eqb-false}
-use Rattle.sets.specs.Sets.{has, setOf, some, count, inserted, removed, joined, lacking, meeting, sizeOf}
+use Rattle.sets.specs.Sets.{has, setOf, some, count, inserted, removed, joined, shared, lacking, meeting, sizeOf}
 
 -- ---- tests
 
@@ -38,6 +38,10 @@ and-true {a} {b} p q = rw (p, q)
 pub or-either : (a b : Bool) → (a || b) ≡ true → (a ≡ true) ⊎ (b ≡ true)
 or-either true b h = inl refl
 or-either false b h = inr h
+
+pub or-neither : (a b : Bool) → (a || b) ≡ false → (a ≡ false) × (b ≡ false)
+or-neither true b h = absurd (true≢false h)
+or-neither false b h = (refl, h)
 
 pub or-left : {a : Bool} (b : Bool) → a ≡ true → (a || b) ≡ true
 or-left b p = rw p
@@ -179,10 +183,32 @@ count-lt (suc n) p q f i l s t = go (suc-cases i n l) (count-mono n p q below) (
 pub count-some : (n : ℕ) (p : ℕ → Bool) (i : ℕ) → i < n → p i ≡ true → 1 ≤ count n p
 count-some n p i l t = omega (arith, count-lt n (λ j. false) p (λ j m e. absurd (true≢false (sym e))) i l refl t)
 
+-- two different numbers for which it holds make two
+pub count-two : (n : ℕ) (p : ℕ → Bool) (i j : ℕ) → (i ≡ j → ⊥) → i < n → j < n → p i ≡ true → p j ≡ true → 2 ≤ count n p
+count-two n p i j h l m s t =
+    omega (arith, count-some n (λ k. eqb k i) i l (eq-eqb i i refl), count-lt n (λ k. eqb k i) p (λ k a e. rw (eqb-true k i e) s) j m (ne-eqb j i (λ e. h (sym e))) t)
+
 -- a test that holds for n numbers below n holds for each of them
 pub count-all : (n : ℕ) (p : ℕ → Bool) → n ≤ count n p → (i : ℕ) → i < n → p i ≡ true
 count-all n p h i l =
     ⊎-elim (λ t. t) (λ (t : p i ≡ false). absurd (omega (arith, count-lt n p (λ j. true) (λ j m e. refl) i l t refl, count-le n (λ j. true)))) (true-or-false (p i))
+
+-- more numbers are no fewer
+pub count-more : (m n : ℕ) (p : ℕ → Bool) → m ≤ n → count m p ≤ count n p
+count-more m zero p l = let e : m ≡ 0 = omega arith in rw e (le-refl (count 0 p))
+count-more m (suc n) p l = go (decLt n m) (p n) refl (count-more m n p)
+  where
+    go : Dec (n < m) → (b : Bool) → p n ≡ b → (m ≤ n → count m p ≤ count n p) → count m p ≤ count (suc n) p
+    go (yes k) b e f = let q : m ≡ suc n = omega arith in rw q (le-refl (count (suc n) p))
+    go (no k) true e f = rw (count-hit n p e) (omega (arith, f (omega arith)))
+    go (no k) false e f = rw (count-miss n p e) (f (omega arith))
+
+-- a loop that counts: the numbers before i, and then i
+pub counted : (p : ℕ → Bool) (i k : ℕ) → count i p ≡ k → p i ≡ true → count (i + 1) p ≡ k + 1
+counted p i k e t = ap (λ (m : ℕ). count m p) (add-one i) ∙ count-hit i p t ∙ ap suc e ∙ sym (add-one k)
+
+pub uncounted : (p : ℕ → Bool) (i k : ℕ) → count i p ≡ k → p i ≡ false → count (i + 1) p ≡ k
+uncounted p i k e t = ap (λ (m : ℕ). count m p) (add-one i) ∙ count-miss i p t ∙ e
 
 -- ---- setOf
 
@@ -397,6 +423,10 @@ insert-out n x i l k =
     is-setOf n x (λ j. has x j || eqb j i) l
     (λ j m. or-none (has x j) ∙ ap (λ (b : Bool). has x j || b) (sym (ne-eqb j i (omega arith))))
 
+pub share-law : (n x y : ℕ) → x < 2 ^ n → y < 2 ^ n → bitAnd x y ≡ shared n x y
+unfolding shared
+share-law n x y l m = is-setOf n (bitAnd x y) (λ j. has x j && has y j) (and-lt n x y l m) (λ i k. has-and x y i)
+
 pub difference-law : (n x y : ℕ) → x < 2 ^ n → y < 2 ^ n → bitAnd x ((2 ^ n - 1) - y) ≡ lacking n x y
 unfolding lacking
 difference-law n x y l m =
@@ -428,7 +458,7 @@ pub join-law : (n x y : ℕ) → x < 2 ^ n → y < 2 ^ n → bitOr x y ≡ joine
 unfolding joined
 join-law n x y l m = is-setOf n (bitOr x y) (λ j. has x j || has y j) (or-lt n x y l m) (λ i k. has-or x y i)
 
--- what the three operations leave in a set
+-- what the operations leave in a set
 pub has-inserted : (n x i j : ℕ) → j < n → has (inserted n x i) j ≡ (has x j || eqb j i)
 unfolding inserted
 has-inserted n x i j l = has-setOf n (λ k. has x k || eqb k i) j l
@@ -440,6 +470,10 @@ has-removed n x i j l = has-setOf n (λ k. has x k && not (eqb k i)) j l
 pub has-joined : (n x y j : ℕ) → j < n → has (joined n x y) j ≡ (has x j || has y j)
 unfolding joined
 has-joined n x y j l = has-setOf n (λ k. has x k || has y k) j l
+
+pub has-shared : (n x y j : ℕ) → j < n → has (shared n x y) j ≡ (has x j && has y j)
+unfolding shared
+has-shared n x y j l = has-setOf n (λ k. has x k && has y k) j l
 
 pub has-lacking : (n x y j : ℕ) → j < n → has (lacking n x y) j ≡ (has x j && not (has y j))
 unfolding lacking
@@ -492,6 +526,13 @@ nonempty n x l = go (decLt 0 x)
     go (no p) =
         let e : x ≡ 0 = omega arith in
         rw e (⊎-elim (λ t. let r = some-of n (has 0) t in absurd (true≢false (sym (r .2) ∙ has-empty (r .0)))) (λ t. sym t) (true-or-false (some n (has 0))))
+
+-- what is in x and not in y is something where some member of x is not in y
+pub lacking-some : (n x y : ℕ) → not (eqb (lacking n x y) 0) ≡ some n (λ j. has x j && not (has y j))
+unfolding lacking
+lacking-some n x y =
+    nonempty n (lacking n x y) (setOf-lt n (λ j. has x j && not (has y j)))
+    ∙ some-cong n (has (lacking n x y)) (λ j. has x j && not (has y j)) (λ j l. has-lacking n x y j l)
 
 pub meet-law : (n x y : ℕ) → x < 2 ^ n → y < 2 ^ n → not (eqb (bitAnd x y) 0) ≡ meeting n x y
 unfolding meeting

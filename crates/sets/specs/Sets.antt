@@ -36,6 +36,10 @@ removed n x i = setOf n (λ j. has x j && not (eqb j i))
 unfoldable pub joined : ℕ → ℕ → ℕ → ℕ
 joined n x y = setOf n (λ j. has x j || has y j)
 
+-- what is in x and in y
+unfoldable pub shared : ℕ → ℕ → ℕ → ℕ
+shared n x y = setOf n (λ j. has x j && has y j)
+
 -- what is in x and not in y
 unfoldable pub lacking : ℕ → ℕ → ℕ → ℕ
 lacking n x y = setOf n (λ j. has x j && not (has y j))

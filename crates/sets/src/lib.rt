@@ -2,7 +2,7 @@
 //
 // Every function answers for any number: one of 64 or more is in no set, and nothing puts it in.
 ghost use mathlib.Core.Path.{_≡_};
-ghost use Rattle.sets.specs.Sets.{has, inserted, removed, joined, lacking, meeting, sizeOf};
+ghost use Rattle.sets.specs.Sets.{has, inserted, removed, joined, shared, lacking, meeting, sizeOf};
 
 // How many numbers a set can hold.
 pub const SIZE: usize = 64;
@@ -42,6 +42,13 @@ pub fn union(x: u64, y: u64) -> u64
     ensures { λ r. ⌜ r ≡ joined 64 x y ⌝ }
 {
     x | y
+}
+
+// What is in x and in y.
+pub fn intersection(x: u64, y: u64) -> u64
+    ensures { λ r. ⌜ r ≡ shared 64 x y ⌝ }
+{
+    x & y
 }
 
 // What is in x and not in y.

@@ -5,14 +5,19 @@ use mathlib.Core.Path.{_≡_, refl}
 use mathlib.Core.Bool.{Bool, true, false, not, _&&_, _||_}
 use mathlib.Core.List.{List}
 use mathlib.Core.Logic.{_↔_}
+use native.Mathlib.Decide.{decLt}
+use native.Mathlib.Omega.{arith}
 use lib.Dec.{eqb}
-use lib.ListN.{getD, set, length}
+use lib.ListN.{getD, set, length, replicate, getD-replicate, length-replicate, List·getD-eq-default}
 use lib.Seq.{getD-set-same, getD-set-other}
 use borrow.Author.Tests.{eqb-true, eqb-false}
 use Rattle.sets.specs.Sets.{has, some, inserted, removed, sizeOf}
-use Rattle.sets.specs.Laws.{and-both, and-true, or-none, and-all, some-iff, some-of, some-at, some-cong, count-some, count-le, has-inserted, has-removed}
+use Rattle.sets.specs.Laws.{and-both, and-true, or-none, and-all, some-iff, some-of, some-at, some-cong, count-some, count-le, has-empty, has-inserted, has-removed}
 use Rattle.tables.specs.Rows.{there, entered, struck}
 use Rattle.tables.specs.Reach.{level, reach, Leads, start}
+use Rattle.tables.specs.declared.Tables.{Tables}
+use Rattle.tables.specs.Tables.{userCount, roleCount, databaseCount, fresh, holds, mayRead, forwardsTo}
+use Rattle.tables.specs.Tables.{withRoles, withReaders, withForwards, assigned, withdrawn, permitted, revoked, forwarded, unforwarded}
 use Rattle.tables.specs.Tables.{heldBy, overlaps, parentsOf, readersOf, staticallyReads}
 use Rattle.tables.specs.Paths.{level-paths, last-paths, has-image}
 
@@ -113,3 +118,58 @@ there-struck n rows a b c d l k = go (eqb c a) refl
     go : (e : Bool) → eqb c a ≡ e → has (getD (set rows a (removed n (getD rows a 0) b)) c 0) d ≡ (has (getD rows c 0) d && not (e && eqb d b))
     go true e = rw (eqb-true c a e, getD-set-same rows a (removed n (getD rows a 0) b) 0 l) (has-removed n (getD rows a 0) b d k)
     go false e = rw (getD-set-other rows a c (removed n (getD rows a 0) b) 0 (eqb-false c a e)) (and-all (has (getD rows c 0) d))
+
+-- ---- each change is one of its own table: who holds what, who may read what, what forwards where
+
+pub holds-assigned : (t : Tables) (u r v q : ℕ) → u < length (t .roles) → q < roleCount → holds (assigned t u r) v q ≡ (holds t v q || (eqb v u && eqb q r))
+unfolding assigned withRoles
+holds-assigned t u r v q l k = there-entered roleCount (t .roles) u r v q l k
+
+pub holds-withdrawn : (t : Tables) (u r v q : ℕ) → u < length (t .roles) → q < roleCount → holds (withdrawn t u r) v q ≡ (holds t v q && not (eqb v u && eqb q r))
+unfolding withdrawn withRoles
+holds-withdrawn t u r v q l k = there-struck roleCount (t .roles) u r v q l k
+
+pub mayRead-permitted : (t : Tables) (r d q e : ℕ) → d < length (t .readers) → q < roleCount → mayRead (permitted t r d) q e ≡ (mayRead t q e || (eqb e d && eqb q r))
+unfolding permitted withReaders
+mayRead-permitted t r d q e l k = there-entered roleCount (t .readers) d r e q l k
+
+pub mayRead-revoked : (t : Tables) (r d q e : ℕ) → d < length (t .readers) → q < roleCount → mayRead (revoked t r d) q e ≡ (mayRead t q e && not (eqb e d && eqb q r))
+unfolding revoked withReaders
+mayRead-revoked t r d q e l k = there-struck roleCount (t .readers) d r e q l k
+
+pub forwardsTo-forwarded : (t : Tables) (d e f g : ℕ) → d < length (t .forwards) → g < databaseCount → forwardsTo (forwarded t d e) f g ≡ (forwardsTo t f g || (eqb f d && eqb g e))
+unfolding forwarded withForwards
+forwardsTo-forwarded t d e f g l k = there-entered databaseCount (t .forwards) d e f g l k
+
+pub forwardsTo-unforwarded : (t : Tables) (d e f g : ℕ) → d < length (t .forwards) → g < databaseCount → forwardsTo (unforwarded t d e) f g ≡ (forwardsTo t f g && not (eqb f d && eqb g e))
+unfolding unforwarded withForwards
+forwardsTo-unforwarded t d e f g l k = there-struck databaseCount (t .forwards) d e f g l k
+
+-- the other two tables stay
+pub roles-apart : (t : Tables) (rows : List ℕ) → (withRoles t rows .readers ≡ t .readers) × (withRoles t rows .forwards ≡ t .forwards)
+unfolding withRoles
+roles-apart t rows = (refl, refl)
+
+pub readers-apart : (t : Tables) (rows : List ℕ) → (withReaders t rows .roles ≡ t .roles) × (withReaders t rows .forwards ≡ t .forwards)
+unfolding withReaders
+readers-apart t rows = (refl, refl)
+
+pub forwards-apart : (t : Tables) (rows : List ℕ) → (withForwards t rows .roles ≡ t .roles) × (withForwards t rows .readers ≡ t .readers)
+unfolding withForwards
+forwards-apart t rows = (refl, refl)
+
+-- ---- fresh tables have no pair
+
+nothing-there : (m a b : ℕ) → there (replicate m 0) a b ≡ false
+unfolding there
+nothing-there m a b = go (decLt a m)
+  where
+    go : Dec (a < m) → has (getD (replicate m 0) a 0) b ≡ false
+    go (yes l) = rw (getD-replicate {A = ℕ} m a 0 0 l) (has-empty b)
+    go (no l) =
+        let h : length (replicate {A = ℕ} m 0) ≤ a = rw (length-replicate {A = ℕ} m 0) (omega arith) in
+        rw (List·getD-eq-default (replicate m 0) 0 h) (has-empty b)
+
+pub fresh-empty : (a b : ℕ) → (holds fresh a b ≡ false) × (mayRead fresh a b ≡ false) × (forwardsTo fresh a b ≡ false)
+unfolding fresh
+fresh-empty a b = (nothing-there userCount a b, nothing-there databaseCount b a, nothing-there databaseCount a b)
