@@ -1,0 +1,12 @@
+use mathlib.Core.Path.{ap}
+use borrow.Author.Needs.{needs}
+use Rattle.engine.specs.Calls.{withTables}
+use Rattle.engine.proofs.Directory.withdrawn.Statement.{statement}
+use Rattle.engine.proofs.Directory.withdrawn.Tie as tie
+
+returns : tie.Need-returns
+unfolding withTables
+returns c = ap (withTables (c .before .args .self)) (c .withdraw .ensures)
+
+pub withdrawn-spec : {M : Type 1} → statement M
+withdrawn-spec = tie.close (tie.spec (λ c κs. search needs) returns)

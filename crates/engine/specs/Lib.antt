@@ -1,0 +1,7 @@
+pub mod State
+pub mod Search
+pub mod Rows
+pub mod Calls
+pub mod Ledger
+pub mod Refusals
+pub mod Demands
