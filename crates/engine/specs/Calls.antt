@@ -124,7 +124,7 @@ after e c = afterVerdict (verdict e c) e c
 -- ---- the answer to a call
 
 -- what an accepted call answers: "for 01–06 the system version; for 07 the role set; for 08 flow number, count of databases in the reach, version;
--- for 09 nothing; for 0a version, deny set, then the role sets", which stand beside the answer
+-- for 09 nothing; for 0a version, deny set, then the role sets from flow 0 on": the constraint stands beside the answer, which says how many role sets it has
 unfoldable pub accepted : Engine → Call → Answer
 accepted e (Assign u r) = Version (changed e (Assign u r) .directory .version)
 accepted e (Withdraw u r) = Version (changed e (Withdraw u r) .directory .version)
@@ -135,7 +135,7 @@ accepted e (Open s) = Version (changed e (Open s) .directory .version)
 accepted e (Conflicting s root) = Roles (conflictsWith e s root)
 accepted e (Add s root chosen) = Flow (getD (e .sessions .counts) s 0) (sizeOf databaseCount (reach databaseCount (e .directory .tables .forwards) root)) (e .directory .version)
 accepted e (Read u s f d) = Answer·Granted
-accepted e (Show s f) = Answer·Constraint
+accepted e (Show s f) = Answer·Constraint (f + 1)
 accepted e Unreadable = Answer·Refused Malformed
 
 unfoldable pub answerOf : Verdict → Engine → Call → Answer

@@ -86,7 +86,7 @@ pub enum Answer {
     },
     // A read was granted.
     Granted,
-    // A constraint is shown.
-    Constraint,
+    // A constraint is shown, which has this many role sets.
+    Constraint(usize),
     Refused(Refusal),
 }

@@ -298,7 +298,7 @@ impl Engine {
             Verdict::Granted => {
                 let constraint = kept.constraints[s * Self::FLOWS + f];
                 Shown {
-                    answer: Answer::Constraint,
+                    answer: Answer::Constraint(f + 1),
                     constraint,
                 }
             }

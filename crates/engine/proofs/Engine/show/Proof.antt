@@ -32,5 +32,6 @@ show-spec =
     (λ c. let i = inside c in omega arith)
     (λ c. let i = inside c in omega arith)
     (λ c. let i = inside c in omega arith)
+    (λ c. let i = inside (c .before) in omega arith)
     returns
     returns-2)
