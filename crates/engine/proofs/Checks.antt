@@ -81,14 +81,18 @@ add-clear opened counts found s root chosen l g =
     rw (lt-leb 16 s (g .session), lt-leb 64 root (g .database), lt-leb (2 ^ 64) chosen l, g .there, lt-leb 8 (getD counts s 0) (g .room))
 
 -- what a granted change leaves for its new version
-pub unspent-assign : (roles : List ℕ) (version u r : ℕ) → version < 65536 → assignRows roles version u r ≡ Granted → (u < 256) × (version < 65535)
+pub granted-assign : (roles : List ℕ) (version u r : ℕ) → assignRows roles version u r ≡ Granted → (u < 256) × (eqb version 65535 ≡ false)
 unfolding assignRows
-unspent-assign roles version u r l h =
+granted-assign roles version u r h =
     let p = passed (leb 256 u) AboveLimit _ h in
     let q = passed (leb 64 r) AboveLimit _ (p .1) in
     let t = passed (there roles u r) AlreadyThere _ (q .1) in
-    let w = passed (eqb version 65535) VersionsSpent _ (t .1) in
-    (leb-false 256 u (p .0), lt-of-le-ne (le-pred-of-lt l) (eqb-false version 65535 (w .0)))
+    (leb-false 256 u (p .0), passed (eqb version 65535) VersionsSpent _ (t .1) .0)
+
+pub unspent-assign : (roles : List ℕ) (version u r : ℕ) → version < 65536 → assignRows roles version u r ≡ Granted → (u < 256) × (version < 65535)
+unspent-assign roles version u r l h =
+    let g = granted-assign roles version u r h in
+    (g .0, lt-of-le-ne (le-pred-of-lt l) (eqb-false version 65535 (g .1)))
 
 pub unspent-permit : (roles readers : List ℕ) (version r d : ℕ) → permitRows roles readers version r d ≡ Granted → spent roles version r ≡ false
 unfolding permitRows

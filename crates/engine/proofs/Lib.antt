@@ -10,3 +10,4 @@ pub mod SeenRows
 pub mod SeenChanges
 pub mod Seen
 pub mod Demands
+pub mod Steps

@@ -20,7 +20,7 @@ use Rattle.engine.specs.declared.calls.Call.{Call}
 use Rattle.engine.specs.declared.calls.Call.the-variants.{Assign, Withdraw, Permit, Revoke, Forward, Open, Conflicting, Add, Read, Show, Unreadable}
 use Rattle.engine.specs.declared.calls.Verdict.{Verdict}
 use Rattle.engine.specs.State.{place, constraintAt, linkable, anyFlow, reachWith, readsTwo, conflicts, conflictsIn, conflictsWith}
-use Rattle.engine.specs.Rows.{refuse, outside, spent, assignRows, withdrawRows, permitRows, revokeRows, forwardRows, openRows, conflictRows, addRows, flowRows, readRows}
+use Rattle.engine.specs.Rows.{refuse, outside, spent, assignRows, withdrawRows, permitRows, revokeRows, forwardRows, openRows, conflictRows, addRows, flowRows, readRows, readVerdict}
 use Rattle.engine.specs.Calls.{numberOf, returned, verdict}
 use Rattle.engine.specs.Ledger.{Ledger, Flow, flowOf, leadsWithin, reachOf, reads, readsTwoOf, isConflicting, linked}
 use Rattle.engine.specs.Refusals.{table, firstMet, among, kind, aboveLimit, named, due, versionDue, flowsNamed, flowNamed, onRead, newFlow, chosenAmiss, flowAdded, refusal, accepts}
@@ -255,7 +255,7 @@ or-assoc false b c = refl
 
 -- the number returned is that of the first row met
 pub number : (e : Engine) (c : Call) → returned (verdict e c) ≡ firstMet (table (seen e) (storedLinkable e)) c
-unfolding verdict assignRows withdrawRows permitRows revokeRows forwardRows openRows conflictRows addRows flowRows readRows returned numberOf later
+unfolding verdict assignRows withdrawRows permitRows revokeRows forwardRows openRows conflictRows addRows flowRows readRows readVerdict returned numberOf later
 number e (Assign u r) =
     peel-or AboveLimit _ _ (leb 256 u) (leb 64 r)
     (λ a. peel AboveLimit _ _ (leb 64 r) (leb 64 r) refl

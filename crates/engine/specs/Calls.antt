@@ -25,7 +25,7 @@ use Rattle.engine.specs.declared.calls.Answer.the-variants.{Version, Rol
 use Rattle.engine.specs.declared.Changed.{Changed as Changed·}
 use Rattle.engine.specs.declared.Shown.{Shown}
 use Rattle.engine.specs.State.{flowCount, place, constraintAt, conflictsWith, newConstraint, newVersion}
-use Rattle.engine.specs.Rows.{refuse, assignRows, withdrawRows, permitRows, revokeRows, forwardRows, openRows, conflictRows, addRows, flowRows, readRows}
+use Rattle.engine.specs.Rows.{refuse, assignRows, withdrawRows, permitRows, revokeRows, forwardRows, openRows, conflictRows, addRows, flowRows, readVerdict}
 
 -- ---- the number of each refusal, as document 01's table has it
 
@@ -62,10 +62,7 @@ verdict e (Open s) = openRows (e .sessions .opened) s
 verdict e (Conflicting s root) = conflictRows (e .sessions .opened) (e .sessions .counts) s root
 verdict e (Add s root chosen) = addRows (e .sessions .opened) (e .sessions .counts) (conflictsWith e s root) s root chosen
 verdict e (Read u s f d) =
-    refuse (leb userCount u) AboveLimit
-    (refuse (leb databaseCount d) AboveLimit
-    (flowRows (e .sessions .opened) (e .sessions .counts) s f
-    (readRows (e .directory .tables .roles) (e .directory .tables .readers) (e .directory .versions) (getD (e .sessions .reaches) (place s f) 0) (constraintAt (e .sessions .constraints) s f) u d)))
+    readVerdict (e .directory .tables .roles) (e .directory .tables .readers) (e .directory .versions) (e .sessions .opened) (e .sessions .counts) (e .sessions .reaches) (constraintAt (e .sessions .constraints) s f) u s f d
 verdict e (Show s f) = flowRows (e .sessions .opened) (e .sessions .counts) s f Granted
 verdict e Unreadable = Refused Malformed
 

@@ -5,3 +5,4 @@ pub mod Calls
 pub mod Ledger
 pub mod Refusals
 pub mod Demands
+pub mod Steps

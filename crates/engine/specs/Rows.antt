@@ -107,3 +107,10 @@ readRows roles readers versions reach c u d =
     (refuse (not (meeting roleCount (getD roles u 0) (getD readers d 0))) NoPermission
     (refuse (ltb (c .version) (getD versions u 0)) Changed
     (refuse (linkable (getD roles u 0) c) Linkable Granted)))
+
+-- 09: rows 2, 6, 10, then those of the flow
+unfoldable pub readVerdict : List ℕ → List ℕ → List ℕ → ℕ → List ℕ → List ℕ → Constraint → ℕ → ℕ → ℕ → ℕ → Verdict
+readVerdict roles readers versions opened counts reaches c u s f d =
+    refuse (leb userCount u) AboveLimit
+    (refuse (leb databaseCount d) AboveLimit
+    (flowRows opened counts s f (readRows roles readers versions (getD reaches (place s f) 0) c u d)))

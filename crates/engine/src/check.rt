@@ -12,7 +12,7 @@ ghost use Prim.Native.Nat.{_<_};
 ghost use Rattle.engine.specs.State.{anyFlow, conflictsIn, linkable};
 ghost use Rattle.engine.specs.Rows.{spent, outside};
 ghost use Rattle.engine.specs.Rows.{assignRows, withdrawRows, permitRows, revokeRows, forwardRows};
-ghost use Rattle.engine.specs.Rows.{openRows, conflictRows, addRows, flowRows, readRows};
+ghost use Rattle.engine.specs.Rows.{openRows, conflictRows, addRows, flowRows, readRows, readVerdict};
 
 pub fn assign(roles: &[u64; Engine::USERS], version: Version, u: usize, r: usize) -> Verdict
     ensures { λ v. ⌜ v ≡ assignRows (now (roles .entry)) version u r ⌝ }
@@ -48,7 +48,7 @@ pub fn withdraw(roles: &[u64; Engine::USERS], u: usize, r: usize) -> Verdict
 }
 
 // Whether the holders of role r are due a new version and none is left.
-fn spends(roles: &[u64; Engine::USERS], version: Version, r: usize) -> bool
+pub(crate) fn spends(roles: &[u64; Engine::USERS], version: Version, r: usize) -> bool
     ensures { λ b. ⌜ b ≡ spent (now (roles .entry)) version r ⌝ }
 {
     if lent::held(roles, r) {
@@ -245,7 +245,7 @@ fn links(held: u64, c: Constraint) -> bool
 }
 
 // A read of a flow that is there, whose reach and constraint these are.
-pub(crate) fn read_flow<'a>(
+fn read_flow<'a>(
     roles: &'a [u64; Engine::USERS],
     readers: &'a [u64; Engine::DATABASES],
     versions: &'a [Version; Engine::USERS],
@@ -271,4 +271,35 @@ pub(crate) fn read_flow<'a>(
         return Verdict::Refused(Refusal::Linkable);
     }
     Verdict::Granted
+}
+
+// A read, where c is the constraint of its flow if that is there.
+pub fn read<'a>(
+    roles: &'a [u64; Engine::USERS],
+    readers: &'a [u64; Engine::DATABASES],
+    versions: &'a [Version; Engine::USERS],
+    opened: u64,
+    counts: &'a [usize; Engine::SESSIONS],
+    reaches: &'a [u64; Engine::PLACES],
+    c: Constraint,
+    u: usize,
+    s: usize,
+    f: usize,
+    d: usize,
+) -> Verdict
+    ensures { λ v. ⌜ v ≡ readVerdict (now (roles .entry)) (now (readers .entry)) (now (versions .entry)) opened (now (counts .entry)) (now (reaches .entry)) c u s f d ⌝ }
+{
+    if Engine::USERS <= u {
+        return Verdict::Refused(Refusal::AboveLimit);
+    }
+    if Engine::DATABASES <= d {
+        return Verdict::Refused(Refusal::AboveLimit);
+    }
+    match show(opened, counts, s, f) {
+        Verdict::Refused(why) => Verdict::Refused(why),
+        Verdict::Granted => {
+            let reach = reaches[s * Engine::FLOWS + f];
+            read_flow(roles, readers, versions, reach, c, u, d)
+        }
+    }
 }

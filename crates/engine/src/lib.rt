@@ -3,6 +3,7 @@ mod calls;
 mod change;
 pub mod check;
 mod search;
+pub mod step;
 
 pub use calls::Answer;
 pub use calls::Call;
@@ -311,28 +312,20 @@ impl Engine {
     {
         let own = self.directory;
         let kept = self.sessions;
-        if Self::USERS <= u {
-            return Verdict::Refused(Refusal::AboveLimit);
-        }
-        if Self::DATABASES <= d {
-            return Verdict::Refused(Refusal::AboveLimit);
-        }
-        match check::show(kept.opened, &kept.counts, s, f) {
-            Verdict::Refused(why) => Verdict::Refused(why),
-            Verdict::Granted => {
-                let at = s * Self::FLOWS + f;
-                let c = kept.constraints[at];
-                let reach = kept.reaches[at];
-                check::read_flow(
-                    &own.tables.roles,
-                    &own.tables.readers,
-                    &own.versions,
-                    reach,
-                    c,
-                    u,
-                    d,
-                )
-            }
-        }
+        let at = step::place(s, f);
+        let c = kept.constraints[at];
+        check::read(
+            &own.tables.roles,
+            &own.tables.readers,
+            &own.versions,
+            kept.opened,
+            &kept.counts,
+            &kept.reaches,
+            c,
+            u,
+            s,
+            f,
+            d,
+        )
     }
 }

@@ -1,55 +1,17 @@
-use mathlib.Core.Path.{_≡_, sym, _∙_}
-use native.Mathlib.Omega.{arith}
+use mathlib.Core.Path.{_∙_}
 use borrow.Author.Needs.{needs}
-use borrow.Author.Tests.{le-leb, lt-leb}
-use Rattle.engine.specs.State.{place, constraintAt}
-use Rattle.engine.specs.Calls.{verdict}
-use Rattle.engine.proofs.Checks.{Present, present, flow-refused, flow-clear}
+use Rattle.engine.specs.declared.calls.Call.the-variants.{Read}
+use Rattle.engine.specs.Steps.{decided, placeOf}
+use Rattle.engine.proofs.Steps.{decided-verdict}
 use Rattle.engine.proofs.Engine.read.Statement.{statement}
 use Rattle.engine.proofs.Engine.read.Tie as tie
 
--- the flow is there
-inside : (c : tie.After-enum-told) → Present (c .before .before .before .before .before .before .before .before .before .args .self .sessions .counts) (c .before .before .before .before .before .before .before .before .before .args .s) (c .before .before .before .before .before .before .before .before .before .args .f)
-inside c = present _ _ _ _ _ (sym (c .before .before .show .ensures) ∙ c .enum-told .given .1)
-
 returns : tie.Need-returns
-unfolding verdict
-returns c = rw (le-leb _ _ (c .if1 .taken))
-
-returns-2 : tie.Need-returns-2
-unfolding verdict
-returns-2 c = rw (lt-leb _ _ (c .before .if1 .left), le-leb _ _ (c .if2 .taken))
-
-returns-3 : tie.Need-returns-3
-unfolding verdict
-returns-3 c =
-    let d = c .before .before .before in
-    let e = d .before .before .before in
-    rw (lt-leb _ _ (e .before .if1 .left), lt-leb _ _ (e .if2 .left)) (sym (flow-refused _ _ _ _ _ _ (sym (d .show .ensures) ∙ c .before .why .given .1)))
-
-returns-4 : tie.Need-returns-4
-unfolding verdict constraintAt place
-returns-4 c =
-    let t = c .before .before .before .before .before .before .before in
-    let d = t .before .before in
-    let e = d .before .before .before in
-    rw (lt-leb _ _ (e .before .if1 .left), lt-leb _ _ (e .if2 .left)) (c .read-flow .ensures ∙ sym (flow-clear _ _ _ _ _ (sym (d .show .ensures) ∙ t .enum-told .given .1)))
+unfolding decided placeOf
+returns c =
+    let k = c .before .before .before .before .before .before .before .before .before in
+    let a = k .before .before .before .args in
+    (rw (k .place .ensures .0) at (c .read .ensures)) ∙ decided-verdict (a .self) (Read (a .u) (a .s) (a .f) (a .d))
 
 pub read-spec : {M : Type 1} → statement M
-read-spec =
-    tie.close
-    (tie.spec
-    returns
-    returns-2
-    (λ c κs. search needs)
-    (λ c. search needs)
-    (λ c. search needs)
-    (λ c. let i = inside c in omega arith)
-    (λ c. let i = inside c in omega arith)
-    (λ c. let i = inside c in omega arith)
-    (λ c. let i = inside c in omega arith)
-    (λ c. let i = inside (c .before) in omega arith)
-    (λ c. let i = inside (c .before) in omega arith)
-    (λ c κs. search needs)
-    returns-3
-    returns-4)
+read-spec = tie.close (tie.spec (λ c κs. search needs) (λ c. search needs) (λ c. search needs) (λ c κs. search needs) returns)
