@@ -5,3 +5,5 @@ pub mod Calls
 pub mod Ledger
 pub mod Refusals
 pub mod Demands
+pub mod Laws
+pub mod Meaning
