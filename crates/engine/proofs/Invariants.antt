@@ -2,7 +2,7 @@
 -- Assumes nothing.
 use Prim.Native.Nat.{ℕ, _+_, _≤_, _<_}
 use mathlib.Core.Path.{_≡_}
-use mathlib.Core.Bool.{true}
+use mathlib.Core.Bool.{true, false}
 use lib.ListN.{length, getD}
 use Rattle.sets.specs.Sets.{has}
 use Rattle.tables.specs.Rows.{there}
@@ -10,7 +10,7 @@ use Rattle.tables.specs.Tables.{readersOf}
 use Rattle.engine.specs.declared.Engine.{Engine}
 use Rattle.engine.specs.State.{place, constraintAt}
 
--- the arrays have their lengths, and no session has more than eight flows
+-- the arrays have their lengths, no session has more than eight flows, and one that is not open has none
 pub record Sized (e : Engine) : Type 0 where
   pub roles : length (e .directory .tables .roles) ≡ 256
   pub readers : length (e .directory .tables .readers) ≡ 64
@@ -21,6 +21,7 @@ pub record Sized (e : Engine) : Type 0 where
   pub reaches : length (e .sessions .reaches) ≡ 128
   pub constraints : length (e .sessions .constraints) ≡ 128
   pub few : (s : ℕ) → getD (e .sessions .counts) s 0 ≤ 8
+  pub shut : (s : ℕ) → s < 16 → has (e .sessions .opened) s ≡ false → getD (e .sessions .counts) s 0 ≡ 0
 
 -- versions are at most the system's; and for a user whose version is at most a flow's and who holds a denied role o, a role r of that user is in
 -- the flow's role set for g exactly when r may today read a database of g's reach

@@ -1,8 +1,8 @@
 -- What the ledger alone tells of a list of calls: what holds of a read that meets no row, what a call changes, and what stays from one call to a later one.
 -- With it the first half of demand 3, over the ledger: under its premises no user's reads of two flows of one session both meet no row.
 -- Assumes nothing.
-use Prim.Native.Nat.{ℕ, zero, suc, _+_, _≤_, _<_}
-use mathlib.Core.Path.{_≡_, refl, sym, _∙_, subst}
+use Prim.Native.Nat.{ℕ, zero, suc, _+_, _^_, _≤_, _<_}
+use mathlib.Core.Path.{_≡_, refl, sym, ap, _∙_, subst}
 use mathlib.Core.Bool.{Bool, true, false, cond, not, _&&_, _||_, true≢false}
 use mathlib.Core.List.{List, [], _∷_, _++_}
 use mathlib.Core.Logic.{_⊎_, inl, inr, ⊎-elim, _↔_, _≢_}
@@ -19,6 +19,7 @@ use Rattle.engine.specs.declared.calls.Call.the-variants.{Assign, Withdr
 use Rattle.engine.specs.Ledger.{Ledger, Flow, start, flowOf, reads, readsTwoOf, holdsDenied, linked}
 use Rattle.engine.specs.Refusals.{kind, aboveLimit, named, due, flowsNamed, flowNamed, onRead, newFlow, table, among, firstMet, refusal, earlierRefusal, accepts, renewed, plus, minus, entered, taken, ledgerAfter}
 use Rattle.engine.specs.Demands.{callAt, ledgerAt, takesFrom}
+use Rattle.engine.proofs.SeenRows.{met-open, met-add}
 
 -- ---- a read that meets no row
 
@@ -155,16 +156,41 @@ entered-versions l Unreadable = (refl, refl)
 Longer : Ledger → ℕ → Ledger → Type 0
 Longer l s m = (m .flows s ≡ l .flows s) ⊎ ((flow : Flow) × (flow .version ≡ l .system) × (m .flows s ≡ l .flows s ++ (flow ∷ [])))
 
-entered-flows : (l : Ledger) (c : Call) (s : ℕ) → Longer l s (entered l c)
+-- every flow's version is at most the system's, and a session that is not open has no flows
+pub record Ordered (l : Ledger) : Type 0 where
+  pub flows : (s f : ℕ) → f < length (l .flows s) → flowOf l s f .version ≤ l .system
+  pub shut : (s : ℕ) → l .opened s ≡ false → l .flows s ≡ []
+
+-- an accepted call meets no row
+meets-none : (l : Ledger) (c : Call) → accepts l c ≡ true → firstMet (table l (linked l)) c ≡ 0
+unfolding accepts refusal
+meets-none l c h = eqb-true (refusal l c) 0 h
+
+-- an accepted opening is of a session that is not open, an accepted addition of one that is
+opens-shut : (l : Ledger) (s : ℕ) → accepts l (Open s) ≡ true → l .opened s ≡ false
+opens-shut l s h =
+    let a = not-met (leb 16 s) 1 _ (sym (met-open l (linked l) s) ∙ meets-none l (Open s) h) in
+    not-met (l .opened s) 2 _ (a .1) .0
+
+adds-open : (l : Ledger) (s d m : ℕ) → accepts l (Add s d m) ≡ true → l .opened s ≡ true
+adds-open l s d m h =
+    let a = not-met (leb 16 s || (leb 64 d || leb (2 ^ 64) m)) 1 _ (sym (met-add l (linked l) s d m) ∙ meets-none l (Add s d m) h) in
+    not-false (l .opened s) (not-met (not (l .opened s)) 5 _ (a .1) .0)
+
+entered-flows : (l : Ledger) (c : Call) (s : ℕ) → Ordered l → accepts l c ≡ true → Longer l s (entered l c)
 unfolding Longer entered newFlow
-entered-flows l (Assign u r) s = inl refl
-entered-flows l (Withdraw u r) s = inl refl
-entered-flows l (Permit r d) s = inl refl
-entered-flows l (Revoke r d) s = inl refl
-entered-flows l (Forward d e) s = inl refl
-entered-flows l (Open t) s = inl refl
-entered-flows l (Conflicting t d) s = inl refl
-entered-flows l (Add t d m) s = go (eqb s t)
+entered-flows l (Assign u r) s o a = inl refl
+entered-flows l (Withdraw u r) s o a = inl refl
+entered-flows l (Permit r d) s o a = inl refl
+entered-flows l (Revoke r d) s o a = inl refl
+entered-flows l (Forward d e) s o a = inl refl
+entered-flows l (Open t) s o a = inl (go (eqb s t) refl)
+  where
+    go : (b : Bool) → eqb s t ≡ b → cond b [] (l .flows s) ≡ l .flows s
+    go true h = rw (eqb-true s t h) (sym (o .shut t (opens-shut l t a)))
+    go false h = refl
+entered-flows l (Conflicting t d) s o a = inl refl
+entered-flows l (Add t d m) s o a = go (eqb s t)
   where
     new : Flow
     new = newFlow l t d m
@@ -173,13 +199,34 @@ entered-flows l (Add t d m) s = go (eqb s t)
         ⊎ ((flow : Flow) × (flow .version ≡ l .system) × (cond b (l .flows s ++ (new ∷ [])) (l .flows s) ≡ l .flows s ++ (flow ∷ [])))
     go true = inr (new, refl, refl)
     go false = inl refl
-entered-flows l (Read u t f d) s = inl refl
-entered-flows l (Show t f) s = inl refl
-entered-flows l Unreadable s = inl refl
+entered-flows l (Read u t f d) s o a = inl refl
+entered-flows l (Show t f) s o a = inl refl
+entered-flows l Unreadable s o a = inl refl
 
-taken-flows : (l : Ledger) (c : Call) (s : ℕ) → Longer l s (taken l c)
+taken-flows : (l : Ledger) (c : Call) (s : ℕ) → Ordered l → Longer l s (taken l c)
 unfolding Longer renewed
-taken-flows l c s = taken-by (Longer l s) l c (inl refl) (λ a. entered-flows l c s)
+taken-flows l c s o = taken-by (Longer l s) l c (inl refl) (λ a. entered-flows l c s o a)
+
+-- a session that is not open after a call was not open before, and got no flow
+entered-shut : (l : Ledger) (c : Call) → Ordered l → accepts l c ≡ true → (s : ℕ) → entered l c .opened s ≡ false → entered l c .flows s ≡ []
+unfolding entered
+entered-shut l (Assign u r) o a s h = o .shut s h
+entered-shut l (Withdraw u r) o a s h = o .shut s h
+entered-shut l (Permit r d) o a s h = o .shut s h
+entered-shut l (Revoke r d) o a s h = o .shut s h
+entered-shut l (Forward d e) o a s h = o .shut s h
+entered-shut l (Open t) o a s h =
+    let w = or-neither (l .opened s) (eqb s t) h in
+    rw (w .1) (o .shut s (w .0))
+entered-shut l (Conflicting t d) o a s h = o .shut s h
+entered-shut l (Add t d m) o a s h = rw (ne-eqb s t (λ e. true≢false (sym (adds-open l t d m a) ∙ ap (l .opened) (sym e) ∙ h))) (o .shut s h)
+entered-shut l (Read u t f d) o a s h = o .shut s h
+entered-shut l (Show t f) o a s h = o .shut s h
+entered-shut l Unreadable o a s h = o .shut s h
+
+taken-shut : (l : Ledger) (c : Call) → Ordered l → (s : ℕ) → taken l c .opened s ≡ false → taken l c .flows s ≡ []
+unfolding renewed
+taken-shut l c o s = taken-by (λ m. m .opened s ≡ false → m .flows s ≡ []) l c (o .shut s) (λ a. entered-shut l c o a s)
 
 -- the system version never falls
 taken-rises : (l : Ledger) (c : Call) → l .system ≤ taken l c .system
@@ -278,10 +325,6 @@ unfolding Longer flowOf
 longer-keeps l m s f (inl e) k = rw e (k, refl)
 longer-keeps l m s f (inr (flow, v, e)) k = rw e (omega (arith, length-append (l .flows s) (flow ∷ [])), List·getD-append (l .flows s) (flow ∷ []) _ f k)
 
--- every flow's version is at most the system's
-pub record Ordered (l : Ledger) : Type 0 where
-  pub flows : (s f : ℕ) → f < length (l .flows s) → flowOf l s f .version ≤ l .system
-
 -- one flow more, whose version is not above n either
 one-flow-more : (flows : List Flow) (new none : Flow) (n f : ℕ) → (f < length flows → getD flows f none .version ≤ n) → new .version ≤ n
     → f < length (flows ++ (new ∷ [])) → getD (flows ++ (new ∷ [])) f none .version ≤ n
@@ -298,10 +341,10 @@ longer-ordered l m s f o n (inr (flow, v, e)) = rw e (one-flow-more (l .flows s)
 
 ordered-start : Ordered start
 unfolding start
-ordered-start = record { flows = λ s f k. absurd (omega arith) }
+ordered-start = record { flows = λ s f k. absurd (omega arith); shut = λ s h. refl }
 
 ordered-step : (l : Ledger) (c : Call) → Ordered l → Ordered (taken l c)
-ordered-step l c o = record { flows = λ s f k. longer-ordered l (taken l c) s f o (taken-rises l c) (taken-flows l c s) k }
+ordered-step l c o = record { flows = λ s f k. longer-ordered l (taken l c) s f o (taken-rises l c) (taken-flows l c s o) k; shut = taken-shut l c o }
 
 -- ---- an older ledger and a later one
 
@@ -314,12 +357,12 @@ pub record Since (l m : Ledger) : Type 0 where
 since-now : (l : Ledger) → Since l l
 since-now l = record { rises = omega arith; flows = λ s f k. (k, refl); given = λ u r d h. inr h }
 
-since-step : (l m : Ledger) (c : Call) → Since l m → Since l (taken m c)
-since-step l m c h = record {
+since-step : (l m : Ledger) (c : Call) → Ordered m → Since l m → Since l (taken m c)
+since-step l m c o h = record {
   rises = omega (arith, taken-rises m c);
   flows = λ s f k.
       let a = h .flows s f k in
-      let b = longer-keeps m (taken m c) s f (taken-flows m c s) (a .0) in
+      let b = longer-keeps m (taken m c) s f (taken-flows m c s o) (a .0) in
       (b .0, b .1 ∙ a .1);
   given = λ u r d t. ⊎-elim
       (λ (x : m .system < taken m c .version u). inl (omega arith))
@@ -357,7 +400,7 @@ ordered-at cs k l = along (λ n. Ordered (ledgerAt cs n)) 0 k (omega arith) (ord
 pub since-at : (cs : List Call) (i j : ℕ) → i ≤ j → j ≤ length cs → Since (ledgerAt cs i) (ledgerAt cs j)
 since-at cs i j l m =
     along (λ n. Since (ledgerAt cs i) (ledgerAt cs n)) i j l (since-now (ledgerAt cs i))
-    (λ n a b h. rw (ledger-step cs n (omega arith)) (since-step (ledgerAt cs i) (ledgerAt cs n) (callAt cs n) h))
+    (λ n a b h. rw (ledger-step cs n (omega arith)) (since-step (ledgerAt cs i) (ledgerAt cs n) (callAt cs n) (ordered-at cs n (omega arith)) h))
 
 -- what a user may read stays while nothing is taken from the user
 pub left-at : (cs : List Call) (i j u r d : ℕ) → i ≤ j → j ≤ length cs → ((k : ℕ) → i ≤ k → k < j → takesFrom (ledgerAt cs k) u (callAt cs k) ≡ false)

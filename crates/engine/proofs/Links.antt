@@ -34,8 +34,8 @@ use Rattle.engine.specs.Rows.{refuse, assignRows, withdrawRows, permitRo
 use Rattle.engine.specs.Calls.{verdict, withTables, withDirectory, withSessions, toHolders, sessionOpened, flowPut, changed, afterVerdict, after}
 use Rattle.engine.specs.Ledger.{flowOf, reads, readsTwoOf, holdsDenied, linked}
 use Rattle.engine.specs.Demands.{flowSeen, seen, storedLinkable}
+use Rattle.engine.specs.Laws.{getD-listOf, getD-listOf-past, getD-same}
 use Rattle.engine.proofs.Invariants.{Sized, Kept}
-use Rattle.engine.proofs.Lists.{getD-listOf, getD-listOf-past, getD-same}
 
 -- ---- a fresh engine has no flow
 

@@ -18,7 +18,7 @@ use Rattle.tables.specs.Reach.{reach}
 use Rattle.tables.specs.Laws.{meets-readers}
 use Rattle.engine.specs.State.{listOf, place, reachWith, readsTwo, conflicts, conflictsIn, roleSet}
 use Rattle.engine.specs.Search.{readersByFlow, conflictsOf, withKin}
-use Rattle.engine.proofs.Lists.{getD-listOf, listOf-cong}
+use Rattle.engine.specs.Laws.{getD-listOf, listOf-cong}
 
 -- ---- a count that stops at two
 

@@ -2,15 +2,15 @@
 -- Assumes nothing.
 use Prim.Native.Nat.{ℕ, _+_, _^_, _≤_, _<_}
 use mathlib.Core.Path.{_≡_, refl, sym, ap, ap₂, _∙_, fun-ext}
-use mathlib.Core.Bool.{Bool, true, false, cond, not}
+use mathlib.Core.Bool.{Bool, true, false, cond, not, true≢false}
 use mathlib.Core.List.{List}
 use native.Mathlib.Omega.{arith}
 use lib.Dec.{leb, ltb, eqb}
 use lib.ListN.{length, getD, set, replicate, length-set, length-replicate}
 use lib.Seq.{getD-set-same, getD-set-other}
-use borrow.Author.Tests.{leb-false, eqb-true, eqb-false, eq-eqb, ne-eqb}
-use Rattle.sets.specs.Sets.{has}
-use Rattle.sets.specs.Laws.{some-at}
+use borrow.Author.Tests.{leb-false, eqb-true, eqb-false, eq-eqb, ne-eqb, not-false}
+use Rattle.sets.specs.Sets.{has, inserted}
+use Rattle.sets.specs.Laws.{or-neither, some-at, has-inserted}
 use Rattle.tables.specs.Rows.{there, struck}
 use Rattle.tables.specs.Rows.{entered as rowEntered}
 use Rattle.tables.specs.Tables.{heldBy, assigned, withdrawn, permitted, revoked, forwarded, withRoles, withReaders, withForwards}
@@ -31,8 +31,8 @@ use Rattle.engine.specs.Calls.{numberOf, returned, verdict, withTables, 
 use Rattle.engine.specs.Ledger.{Ledger, start}
 use Rattle.engine.specs.Refusals.{due, accepts, renewed, entered, taken}
 use Rattle.engine.specs.Demands.{Demand1, flowSeen, seen, isRead}
+use Rattle.engine.specs.Laws.{getD-same, listOf-zero, length-listOf}
 use Rattle.engine.proofs.Invariants.{Sized}
-use Rattle.engine.proofs.Lists.{getD-same, listOf-zero, length-listOf}
 use Rattle.engine.proofs.SeenRows.{number, accepts-seen, holds-seen}
 use Rattle.engine.proofs.SeenChanges.{same-ledger, nothing, renewed-none, renewed-some, holders-seen, same-assign, same-withdraw, same-permit, same-revoke, same-forward, same-open, same-add}
 
@@ -78,19 +78,23 @@ pub within-forward : (e : Engine) (d x : ℕ) → verdict e (Forward d x) ≡ Gr
 unfolding verdict forwardRows
 within-forward e d x h = let a = both 64 64 d x AboveLimit _ h in (a .0, a .1)
 
-pub within-open : (e : Engine) (s : ℕ) → verdict e (Open s) ≡ Granted → s < 16
+-- and the session is not open
+pub within-open : (e : Engine) (s : ℕ) → verdict e (Open s) ≡ Granted → (s < 16) × (has (e .sessions .opened) s ≡ false)
 unfolding verdict openRows
-within-open e s h = within 16 s AboveLimit _ h .0
+within-open e s h =
+    let a = within 16 s AboveLimit _ h in
+    (a .0, passed (has (e .sessions .opened) s) AlreadyThere _ (a .1) .0)
 
--- and the session has room for one flow more
-pub within-add : (e : Engine) (s root chosen : ℕ) → verdict e (Add s root chosen) ≡ Granted → (s < 16) × (root < 64) × (chosen < 2 ^ 64) × (getD (e .sessions .counts) s 0 < 8)
+-- and the session has room for one flow more, and is open
+pub within-add : (e : Engine) (s root chosen : ℕ) → verdict e (Add s root chosen) ≡ Granted
+    → (s < 16) × (root < 64) × (chosen < 2 ^ 64) × (getD (e .sessions .counts) s 0 < 8) × (has (e .sessions .opened) s ≡ true)
 unfolding verdict addRows
 within-add e s root chosen h =
     let a = both 16 64 s root AboveLimit _ h in
     let b = within (2 ^ 64) chosen AboveLimit _ (a .2) in
     let c = passed (not (has (e .sessions .opened) s)) NotOpen _ (b .1) in
     let d = within 8 (getD (e .sessions .counts) s 0) SessionFull _ (c .1) in
-    (a .0, a .1, b .0, d .0)
+    (a .0, a .1, b .0, d .0, not-false (has (e .sessions .opened) s) (c .0))
 
 -- ---- an engine is left as it was, or is changed by an accepted call
 
@@ -116,16 +120,17 @@ sized-fresh = record {
   reaches = length-replicate {A = ℕ} 128 0;
   constraints = length-replicate {A = Constraint} 128 (record { version = 0; deny = 0; roles = replicate 8 0 });
   few = λ s. rw (getD-same {A = ℕ} 16 s 0) (omega arith);
+  shut = λ s l o. getD-same {A = ℕ} 16 s 0;
 }
 
 -- another directory of the same lengths, or other sessions
 sized-directory : (e : Engine) (D : Directory) → Sized e → length (D .tables .roles) ≡ 256 → length (D .tables .readers) ≡ 64 → length (D .tables .forwards) ≡ 64 → length (D .versions) ≡ 256 → Sized (withDirectory e D)
 unfolding withDirectory
-sized-directory e D z a b c d = record { roles = a; readers = b; forwards = c; versions = d; counts = z .counts; roots = z .roots; reaches = z .reaches; constraints = z .constraints; few = z .few }
+sized-directory e D z a b c d = record { roles = a; readers = b; forwards = c; versions = d; counts = z .counts; roots = z .roots; reaches = z .reaches; constraints = z .constraints; few = z .few; shut = z .shut }
 
 sized-renewed : (e : Engine) (D : Directory) (who : ℕ → Bool) → Sized (withDirectory e D) → Sized (withDirectory e (newVersion D who))
 unfolding withDirectory newVersion
-sized-renewed e D who z = record { roles = z .roles; readers = z .readers; forwards = z .forwards; versions = length-listOf 256 _; counts = z .counts; roots = z .roots; reaches = z .reaches; constraints = z .constraints; few = z .few }
+sized-renewed e D who z = record { roles = z .roles; readers = z .readers; forwards = z .forwards; versions = length-listOf 256 _; counts = z .counts; roots = z .roots; reaches = z .reaches; constraints = z .constraints; few = z .few; shut = z .shut }
 
 sized-holders : (e : Engine) (D : Directory) (r : ℕ) → Sized (withDirectory e D) → Sized (withDirectory e (toHolders D r))
 unfolding toHolders
@@ -138,9 +143,10 @@ sized-holders e D r z = go (heldBy 256 (D .tables .roles) r)
     go true = sized-renewed e D who z
     go false = z
 
-sized-sessions : (e : Engine) (S : Sessions) → Sized e → length (S .counts) ≡ 16 → length (S .roots) ≡ 128 → length (S .reaches) ≡ 128 → length (S .constraints) ≡ 128 → ((s : ℕ) → getD (S .counts) s 0 ≤ 8) → Sized (withSessions e S)
+sized-sessions : (e : Engine) (S : Sessions) → Sized e → length (S .counts) ≡ 16 → length (S .roots) ≡ 128 → length (S .reaches) ≡ 128 → length (S .constraints) ≡ 128 → ((s : ℕ) → getD (S .counts) s 0 ≤ 8)
+    → ((s : ℕ) → s < 16 → has (S .opened) s ≡ false → getD (S .counts) s 0 ≡ 0) → Sized (withSessions e S)
 unfolding withSessions
-sized-sessions e S z a b c d f = record { roles = z .roles; readers = z .readers; forwards = z .forwards; versions = z .versions; counts = a; roots = b; reaches = c; constraints = d; few = f }
+sized-sessions e S z a b c d f g = record { roles = z .roles; readers = z .readers; forwards = z .forwards; versions = z .versions; counts = a; roots = b; reaches = c; constraints = d; few = f; shut = g }
 
 -- one flow more where there is room
 few-put : (counts : List ℕ) (s n : ℕ) → ((t : ℕ) → getD counts t 0 ≤ 8) → s < length counts → n < 8 → (t : ℕ) → getD (set counts s (n + 1)) t 0 ≤ 8
@@ -150,6 +156,15 @@ few-put counts s n few l m t = go (eqb t s) refl
     go true h = rw (eqb-true t s h, getD-set-same counts s (n + 1) 0 l) (omega arith)
     go false h = rw (getD-set-other counts s t (n + 1) 0 (eqb-false t s h)) (few t)
 
+-- in a session that is open
+shut-put : (opened : ℕ) (counts : List ℕ) (s n : ℕ) → ((t : ℕ) → t < 16 → has opened t ≡ false → getD counts t 0 ≡ 0) → has opened s ≡ true
+    → (t : ℕ) → t < 16 → has opened t ≡ false → getD (set counts s (n + 1)) t 0 ≡ 0
+shut-put opened counts s n shut o t l h = getD-set-other counts s t (n + 1) 0 (λ q. true≢false (sym o ∙ ap (has opened) (sym q) ∙ h)) ∙ shut t l h
+
+-- a session that is still not open was not open
+still-shut : (opened s t : ℕ) → t < 16 → has (inserted 64 opened s) t ≡ false → has opened t ≡ false
+still-shut opened s t l h = or-neither (has opened t) (eqb t s) (sym (has-inserted 64 opened s t (omega arith)) ∙ h) .0
+
 sized-changed : (e : Engine) (c : Call) → Sized e → verdict e c ≡ Granted → Sized (changed e c)
 unfolding changed withTables assigned withdrawn permitted revoked forwarded withRoles withReaders withForwards rowEntered struck sessionOpened flowPut
 sized-changed e (Assign u r) z h =
@@ -158,13 +173,13 @@ sized-changed e (Withdraw u r) z h = sized-directory e _ z (length-set (e .direc
 sized-changed e (Permit r d) z h = sized-holders e _ r (sized-directory e _ z (z .roles) (length-set (e .directory .tables .readers) d _ ∙ z .readers) (z .forwards) (z .versions))
 sized-changed e (Revoke r d) z h = sized-holders e _ r (sized-directory e _ z (z .roles) (length-set (e .directory .tables .readers) d _ ∙ z .readers) (z .forwards) (z .versions))
 sized-changed e (Forward d x) z h = sized-directory e _ z (z .roles) (z .readers) (length-set (e .directory .tables .forwards) d _ ∙ z .forwards) (z .versions)
-sized-changed e (Open s) z h = sized-sessions e _ z (z .counts) (z .roots) (z .reaches) (z .constraints) (z .few)
+sized-changed e (Open s) z h = sized-sessions e _ z (z .counts) (z .roots) (z .reaches) (z .constraints) (z .few) (λ t l o. z .shut t l (still-shut (e .sessions .opened) s t l o))
 sized-changed e (Conflicting s root) z h = z
 sized-changed e (Add s root chosen) z h =
     let w = within-add e s root chosen h in
     let l : s < length (e .sessions .counts) = omega (arith, z .counts) in
     sized-sessions e _ z (length-set (e .sessions .counts) s _ ∙ z .counts) (length-set (e .sessions .roots) _ _ ∙ z .roots) (length-set (e .sessions .reaches) _ _ ∙ z .reaches) (length-set (e .sessions .constraints) _ _ ∙ z .constraints)
-    (few-put (e .sessions .counts) s (getD (e .sessions .counts) s 0) (z .few) l (w .3))
+    (few-put (e .sessions .counts) s (getD (e .sessions .counts) s 0) (z .few) l (w .3)) (shut-put (e .sessions .opened) (e .sessions .counts) s (getD (e .sessions .counts) s 0) (z .shut) (w .4))
 sized-changed e (Read u s f d) z h = z
 sized-changed e (Show s f) z h = z
 sized-changed e Unreadable z h = z
@@ -199,7 +214,7 @@ seen-changed e (Revoke r d) z h =
     let w = within-revoke e r d h in
     holders-seen e _ r (z .versions) (z .roles) ∙ ap₂ renewed (same-revoke e z r d (w .0) (w .1)) (fun-ext (λ v. holds-seen e v r (w .0)))
 seen-changed e (Forward d x) z h = let w = within-forward e d x h in same-forward e z d x (w .0) (w .1) ∙ sym (renewed-none (entered (seen e) (Forward d x)))
-seen-changed e (Open s) z h = same-open e z s (within-open e s h) ∙ sym (renewed-none (entered (seen e) (Open s)))
+seen-changed e (Open s) z h = let w = within-open e s h in same-open e z s (w .0) (w .1) ∙ sym (renewed-none (entered (seen e) (Open s)))
 seen-changed e (Add s root chosen) z h = let w = within-add e s root chosen h in same-add e z s root chosen (w .0) (w .1) (w .2) (w .3) ∙ sym (renewed-none (entered (seen e) (Add s root chosen)))
 seen-changed e (Conflicting s root) z h = sym (renewed-none (seen e))
 seen-changed e (Read u s f d) z h = sym (renewed-none (seen e))

@@ -13,7 +13,7 @@ use lib.ListN.{length, getD, List·getD-eq-default}
 use lib.Seq.{getD-set-same, getD-set-other}
 use borrow.Author.Tests.{ltb-true, ltb-false, lt-ltb, le-ltb, eqb-true, eqb-false, ne-eqb}
 use Rattle.sets.specs.Sets.{has, some, inserted, joined}
-use Rattle.sets.specs.Laws.{true-or-false, some-at, some-cong, has-inserted, has-joined, has-empty, has-high}
+use Rattle.sets.specs.Laws.{true-or-false, some-at, some-nowhere, some-cong, has-inserted, has-joined, has-empty, has-high}
 use Rattle.tables.specs.Rows.{there, struck}
 use Rattle.tables.specs.Rows.{entered as rowEntered}
 use Rattle.tables.specs.Reach.{reach}
@@ -28,8 +28,8 @@ use Rattle.engine.specs.Calls.{withTables, withDirectory, withSessions, 
 use Rattle.engine.specs.Ledger.{Ledger, Flow, leadsWithin, reachOf}
 use Rattle.engine.specs.Refusals.{newFlow, lastDeny, renewed, plus, minus, entered}
 use Rattle.engine.specs.Demands.{flowSeen, seen}
+use Rattle.engine.specs.Laws.{listOf-suc, listOf-zero, listOf-cong, getD-listOf, getD-listOf-past, places, place-lt}
 use Rattle.engine.proofs.Invariants.{Sized}
-use Rattle.engine.proofs.Lists.{listOf-suc, listOf-zero, listOf-cong, getD-listOf, getD-listOf-past}
 use Rattle.engine.proofs.SeenRows.{reach-seen}
 
 -- ---- two ledgers are equal where they say the same
@@ -53,15 +53,10 @@ nothing false x i e = refl
 
 -- ---- new versions
 
-some-false : (n : ℕ) → some n (λ w. false) ≡ false
-unfolding some
-some-false zero = refl
-some-false (suc n) = some-false n
-
 -- nobody is due one
 pub renewed-none : (l : Ledger) → renewed l (λ w. false) ≡ l
 unfolding renewed
-renewed-none l = same-ledger (renewed l (λ w. false)) l (λ u r. refl) (λ r d. refl) (λ d x. refl) (ap (λ (b : Bool). cond b (l .system + 1) (l .system)) (some-false 256)) (λ u. refl) (λ s. refl) (λ s. refl)
+renewed-none l = same-ledger (renewed l (λ w. false)) l (λ u r. refl) (λ r d. refl) (λ d x. refl) (ap (λ (b : Bool). cond b (l .system + 1) (l .system)) (some-nowhere 256 (λ w. false) (λ w m. refl))) (λ u. refl) (λ s. refl) (λ s. refl)
 
 -- a test that holds for nobody below n, and for nobody above
 due-none : (n : ℕ) (who : ℕ → Bool) → ((w : ℕ) → n ≤ w → who w ≡ false) → some n who ≡ false → (w : ℕ) → who w ≡ false
@@ -171,14 +166,26 @@ module _ (e : Engine) (z : Sized e) where
       same-ledger (seen (withDirectory e (withTables (e .directory) (forwarded (e .directory .tables) d x)))) (entered (seen e) (Forward d x)) (λ w q. refl) (λ q y. refl)
       (λ y q. plus-seen 64 (e .directory .tables .forwards) d x y q (omega (arith, z .forwards)) k) refl (λ w. refl) (λ s. refl) (λ s. refl)
 
-  pub same-open : (s : ℕ) → s < 16 → seen (withSessions e (sessionOpened (e .sessions) s)) ≡ entered (seen e) (Open s)
+  -- the flows of a session that was not open: there are none
+  pub no-flows : (s : ℕ) → s < 16 → has (e .sessions .opened) s ≡ false → seen e .flows s ≡ []
+  unfolding seen
+  no-flows s l o = ap (λ (n : ℕ). listOf n (flowSeen e s)) (z .shut s l o) ∙ listOf-zero (flowSeen e s)
+
+  flows-open : (s : ℕ) → s < 16 → has (e .sessions .opened) s ≡ false → (t : ℕ) → seen e .flows t ≡ cond (eqb t s) [] (seen e .flows t)
+  flows-open s l o t = go (eqb t s) refl
+    where
+      go : (b : Bool) → eqb t s ≡ b → seen e .flows t ≡ cond b [] (seen e .flows t)
+      go true h = rw (eqb-true t s h) (no-flows s l o)
+      go false h = refl
+
+  pub same-open : (s : ℕ) → s < 16 → has (e .sessions .opened) s ≡ false → seen (withSessions e (sessionOpened (e .sessions) s)) ≡ entered (seen e) (Open s)
   unfolding seen flowSeen withSessions sessionOpened entered
-  same-open s l =
+  same-open s l o =
       same-ledger (seen (withSessions e (sessionOpened (e .sessions) s))) (entered (seen e) (Open s)) (λ w q. refl) (λ q d. refl) (λ d x. refl) refl (λ w. refl)
       (λ t. bound-cases 64 t (has (inserted 64 (e .sessions .opened) s) t) ((ltb t 64 && has (e .sessions .opened) t) || eqb t s)
       (λ h. has-inserted 64 (e .sessions .opened) s t h ∙ rw (lt-ltb t 64 h))
       (λ h. rw (le-ltb t 64 h) (ne-eqb t s (omega arith))))
-      (λ t. refl)
+      (flows-open s l o)
 
 -- ---- a flow more
 
@@ -190,7 +197,7 @@ flowFrom root reach c = record { root = root; reach = λ d. ltb d 64 && has reac
 leads-past : (onto : ℕ → ℕ → Bool) → ((a b : ℕ) → 64 ≤ b → onto a b ≡ false) → (root : ℕ) → root < 64 → (k d : ℕ) → 64 ≤ d → leadsWithin onto root k d ≡ false
 unfolding leadsWithin
 leads-past onto f root l zero d h = ne-eqb d root (omega arith)
-leads-past onto f root l (suc k) d h = rw (leads-past onto f root l k d h) (some-cong 64 (λ c. leadsWithin onto root k c && onto c d) (λ c. false) (λ c m. ap (λ (b : Bool). leadsWithin onto root k c && b) (f c d h) ∙ and-swap (leadsWithin onto root k c) false) ∙ some-false 64)
+leads-past onto f root l (suc k) d h = rw (leads-past onto f root l k d h) (some-cong 64 (λ c. leadsWithin onto root k c && onto c d) (λ c. false) (λ c m. ap (λ (b : Bool). leadsWithin onto root k c && b) (f c d h) ∙ and-swap (leadsWithin onto root k c) false) ∙ some-nowhere 64 (λ c. false) (λ c m. refl))
 
 reach-past : (e : Engine) (root d : ℕ) → root < 64 → 64 ≤ d → reachOf (seen e) root d ≡ false
 unfolding reachOf seen
@@ -208,14 +215,6 @@ unfolding denyBefore flowSeen lastDeny
 last-seen e s r zero = nothing (ltb r 64) 0 r refl ∙ ap (λ (xs : List Flow). lastDeny xs r) (sym (listOf-zero (flowSeen e s)))
 last-seen e s r (suc n) = sym (ap (λ (xs : List Flow). lastDeny xs r) (listOf-suc n (flowSeen e s)) ∙ lastDeny-snoc (listOf n (flowSeen e s)) (flowSeen e s n) r)
 
--- two places differ where the sessions do, or the flows do
-places : (t f s n : ℕ) → f < 8 → n < 8 → (t ≡ s → f ≡ n → ⊥) → place t f ≡ place s n → ⊥
-unfolding place
-places t f s n l m d e =
-    let a : t ≡ s = omega arith in
-    let b : f ≡ n = omega arith in
-    d a b
-
 module _ (e : Engine) (z : Sized e) (s root chosen : ℕ) (l : s < 16) (k : root < 64) (h : chosen < 2 ^ 64) (m : getD (e .sessions .counts) s 0 < 8) where
   n : ℕ
   n = getD (e .sessions .counts) s 0
@@ -229,9 +228,9 @@ module _ (e : Engine) (z : Sized e) (s root chosen : ℕ) (l : s < 16) (k : root
   flow-stays t f d = λ i. flowFrom (getD-set-other (e .sessions .roots) (place s n) (place t f) root 0 d i) (getD-set-other (e .sessions .reaches) (place s n) (place t f) (reach 64 (e .directory .tables .forwards) root) 0 d i)
       (getD-set-other (e .sessions .constraints) (place s n) (place t f) (newConstraint (e .directory) (e .sessions) s root chosen) noConstraint d i)
 
-  place-lt : place s n < 128
-  unfolding n place
-  place-lt = omega arith
+  inside : place s n < 128
+  unfolding n
+  inside = place-lt s n l m
 
   -- the new flow's reach and deny set
   reach-put : (d : ℕ) → (ltb d 64 && has (reach 64 (e .directory .tables .forwards) root) d) ≡ reachOf (seen e) root d
@@ -248,9 +247,9 @@ module _ (e : Engine) (z : Sized e) (s root chosen : ℕ) (l : s < 16) (k : root
   flow-put : flowSeen put s n ≡ newFlow (seen e) s root chosen
   unfolding n put flowSeen flowFrom constraintAt withSessions flowPut newConstraint newFlow seen
   flow-put =
-      let a : place s n < length (e .sessions .roots) = omega (arith, place-lt, z .roots) in
-      let b : place s n < length (e .sessions .reaches) = omega (arith, place-lt, z .reaches) in
-      let c : place s n < length (e .sessions .constraints) = omega (arith, place-lt, z .constraints) in
+      let a : place s n < length (e .sessions .roots) = omega (arith, inside, z .roots) in
+      let b : place s n < length (e .sessions .reaches) = omega (arith, inside, z .reaches) in
+      let c : place s n < length (e .sessions .constraints) = omega (arith, inside, z .constraints) in
       (λ i. flowFrom (getD-set-same (e .sessions .roots) (place s n) root 0 a i) (getD-set-same (e .sessions .reaches) (place s n) (reach 64 (e .directory .tables .forwards) root) 0 b i)
       (getD-set-same (e .sessions .constraints) (place s n) (newConstraint (e .directory) (e .sessions) s root chosen) noConstraint c i))
       ∙ (λ i. record { root = root; reach = λ d. reach-put d i; version = e .directory .version; deny = λ r. deny-put r i })

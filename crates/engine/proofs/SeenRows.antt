@@ -25,7 +25,7 @@ use Rattle.engine.specs.Calls.{numberOf, returned, verdict}
 use Rattle.engine.specs.Ledger.{Ledger, Flow, flowOf, leadsWithin, reachOf, reads, readsTwoOf, isConflicting, linked}
 use Rattle.engine.specs.Refusals.{table, firstMet, among, kind, aboveLimit, named, due, versionDue, flowsNamed, flowNamed, onRead, newFlow, chosenAmiss, flowAdded, refusal, accepts}
 use Rattle.engine.specs.Demands.{flowSeen, seen, storedLinkable, isRead}
-use Rattle.engine.proofs.Lists.{length-snoc, length-listOf, getD-listOf, getD-snoc}
+use Rattle.engine.specs.Laws.{length-snoc, length-listOf, getD-listOf, getD-snoc}
 
 -- ---- one check against one row
 
@@ -72,7 +72,7 @@ module _ (l : Ledger) (p : ℕ → ℕ → ℕ → Bool) where
   unfolding firstMet table among kind aboveLimit named
   met-forward d x = refl
 
-  met-open : (s : ℕ) → firstMet (table l p) (Open s) ≡ cond (leb 16 s) 2 (cond (l .opened s) 3 0)
+  pub met-open : (s : ℕ) → firstMet (table l p) (Open s) ≡ cond (leb 16 s) 2 (cond (l .opened s) 3 0)
   unfolding firstMet table among kind aboveLimit named
   met-open s = refl
 
@@ -80,7 +80,7 @@ module _ (l : Ledger) (p : ℕ → ℕ → ℕ → Bool) where
   unfolding firstMet table among kind aboveLimit named flowsNamed
   met-conflicting s d = refl
 
-  met-add : (s d m : ℕ)
+  pub met-add : (s d m : ℕ)
       → firstMet (table l p) (Add s d m)
       ≡ cond (leb 16 s || (leb 64 d || leb (2 ^ 64) m)) 2 (cond (not (l .opened s)) 6 (cond (leb 8 (length (l .flows s))) 7 (cond (some 64 (λ r. has m r && not (isConflicting l s (newFlow l s d m) r))) 8 0)))
   unfolding firstMet table among kind aboveLimit named flowsNamed chosenAmiss

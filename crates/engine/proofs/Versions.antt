@@ -16,7 +16,7 @@ use Rattle.tables.specs.Rows.{there}
 use Rattle.tables.specs.Tables.{heldBy}
 use Rattle.engine.specs.Rows.{spent}
 use Rattle.engine.specs.State.{listOf}
-use Rattle.engine.proofs.Lists.{is-listOf}
+use Rattle.engine.specs.Laws.{is-listOf}
 
 -- one user's version is stored
 pub one-renewed : (n : ℕ) (versions : List ℕ) (u v : ℕ) → length versions ≡ n → u < n → set versions u v ≡ listOf n (λ w. cond (eqb w u) v (getD versions w 0))

@@ -1,8 +1,10 @@
 pub mod State
-pub mod Search
 pub mod Rows
 pub mod Calls
 pub mod Ledger
 pub mod Refusals
 pub mod Demands
+pub mod Meaning
+pub mod Search
 pub mod Steps
+pub mod Laws

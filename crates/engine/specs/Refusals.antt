@@ -240,7 +240,16 @@ entered l (Withdraw u r) = record { holds = minus (l .holds) u r; mayRead = l .m
 entered l (Permit r d) = record { holds = l .holds; mayRead = plus (l .mayRead) r d; forwards = l .forwards; system = l .system; version = l .version; opened = l .opened; flows = l .flows }
 entered l (Revoke r d) = record { holds = l .holds; mayRead = minus (l .mayRead) r d; forwards = l .forwards; system = l .system; version = l .version; opened = l .opened; flows = l .flows }
 entered l (Forward d e) = record { holds = l .holds; mayRead = l .mayRead; forwards = plus (l .forwards) d e; system = l .system; version = l .version; opened = l .opened; flows = l .flows }
-entered l (Open s) = record { holds = l .holds; mayRead = l .mayRead; forwards = l .forwards; system = l .system; version = l .version; opened = λ t. l .opened t || eqb t s; flows = l .flows }
+-- "An accepted opening: the session is there, without flows."
+entered l (Open s) = record {
+  holds = l .holds;
+  mayRead = l .mayRead;
+  forwards = l .forwards;
+  system = l .system;
+  version = l .version;
+  opened = λ t. l .opened t || eqb t s;
+  flows = λ t. cond (eqb t s) [] (l .flows t);
+}
 entered l (Add s d m) = record {
   holds = l .holds;
   mayRead = l .mayRead;

@@ -12,7 +12,7 @@ use lib.Dec.{eqb, leb, ltb}
 use lib.Pow.{pow-pos, pow-mono, pow-lt, high, low, split, mod-pow-add, mod-mod-pow, field, shr-shr}
 use lib.Bits.{bitAnd, bitOr, and-shr, or-shr, and-mod, or-mod, or-lt, and-lt, or-disjoint}
 use lib.Count.{ones, ones-cat, trailingZeros, under}
-use borrow.Author.Tests.{eq-eqb, ne-eqb, eqb-true, eqb-false}
+use borrow.Author.Tests.{eq-eqb, ne-eqb, eqb-true, eqb-false, leb-true, le-leb}
 use Rattle.sets.specs.Sets.{has, setOf, some, count, inserted, removed, joined, shared, lacking, meeting, sizeOf}
 
 -- ---- tests
@@ -123,6 +123,10 @@ some-at (suc n) p i l h = some-suc n p ∙ go (some-at n p i) (suc-cases i n l)
 pub some-iff : (n : ℕ) (p : ℕ → Bool) → (some n p ≡ true) ↔ ((i : ℕ) × (i < n) × (p i ≡ true))
 some-iff n p = (some-of n p, λ r. some-at n p (r .0) (r .1) (r .2))
 
+-- it does not where it holds for none of them
+pub some-nowhere : (n : ℕ) (p : ℕ → Bool) → ((i : ℕ) → i < n → p i ≡ false) → some n p ≡ false
+some-nowhere n p f = ⊎-elim (λ t. let r = some-of n p t in absurd (true≢false (sym (r .2) ∙ f (r .0) (r .1)))) (λ t. t) (true-or-false (some n p))
+
 pub some-cong : (n : ℕ) (p q : ℕ → Bool) → ((i : ℕ) → i < n → p i ≡ q i) → some n p ≡ some n q
 some-cong n p q f =
     tests-equal (some n p) (some n q)
@@ -187,6 +191,36 @@ count-some n p i l t = omega (arith, count-lt n (λ j. false) p (λ j m e. absur
 pub count-two : (n : ℕ) (p : ℕ → Bool) (i j : ℕ) → (i ≡ j → ⊥) → i < n → j < n → p i ≡ true → p j ≡ true → 2 ≤ count n p
 count-two n p i j h l m s t =
     omega (arith, count-some n (λ k. eqb k i) i l (eq-eqb i i refl), count-lt n (λ k. eqb k i) p (λ k a e. rw (eqb-true k i e) s) j m (ne-eqb j i (λ e. h (sym e))) t)
+
+-- and where it holds for one or for two, there they are
+pub one-of : (n : ℕ) (p : ℕ → Bool) → 1 ≤ count n p → (i : ℕ) × (i < n) × (p i ≡ true)
+one-of zero p h = absurd (omega (arith, count-none p))
+one-of (suc n) p h = go (p n) refl (one-of n p)
+  where
+    go : (b : Bool) → p n ≡ b → (1 ≤ count n p → (i : ℕ) × (i < n) × (p i ≡ true)) → (i : ℕ) × (i < suc n) × (p i ≡ true)
+    go true e f = (n, omega arith, e)
+    go false e f = let r = f (omega (arith, count-miss n p e)) in (r .0, omega arith, r .2)
+
+pub two-of : (n : ℕ) (p : ℕ → Bool) → 2 ≤ count n p → (i : ℕ) × (j : ℕ) × (i < j) × (j < n) × (p i ≡ true) × (p j ≡ true)
+two-of zero p h = absurd (omega (arith, count-none p))
+two-of (suc n) p h = go (p n) refl (two-of n p)
+  where
+    go : (b : Bool) → p n ≡ b → (2 ≤ count n p → (i : ℕ) × (j : ℕ) × (i < j) × (j < n) × (p i ≡ true) × (p j ≡ true))
+        → (i : ℕ) × (j : ℕ) × (i < j) × (j < suc n) × (p i ≡ true) × (p j ≡ true)
+    go true e f = let r = one-of n p (omega (arith, count-hit n p e)) in (r .0, n, r .1, omega arith, r .2, e)
+    go false e f = let r = f (omega (arith, count-miss n p e)) in (r .0, r .1, r .2, omega arith, r .4, r .5)
+
+-- what a count of at least two says: it holds for two different numbers below n
+pub two-iff : (n : ℕ) (p : ℕ → Bool) → (leb 2 (count n p) ≡ true) ↔ ((i : ℕ) × (j : ℕ) × (i < j) × (j < n) × (p i ≡ true) × (p j ≡ true))
+two-iff n p = (
+  λ h. two-of n p (leb-true 2 (count n p) h),
+  λ r.
+      let i : ℕ = r .0 in
+      let j : ℕ = r .1 in
+      let k : i < j = r .2 in
+      let l : j < n = r .3 in
+      le-leb 2 (count n p) (count-two n p i j (omega arith) (omega arith) l (r .4) (r .5)),
+)
 
 -- a test that holds for n numbers below n holds for each of them
 pub count-all : (n : ℕ) (p : ℕ → Bool) → n ≤ count n p → (i : ℕ) → i < n → p i ≡ true
@@ -478,6 +512,34 @@ has-shared n x y j l = has-setOf n (λ k. has x k && has y k) j l
 pub has-lacking : (n x y j : ℕ) → j < n → has (lacking n x y) j ≡ (has x j && not (has y j))
 unfolding lacking
 has-lacking n x y j l = has-setOf n (λ k. has x k && not (has y k)) j l
+
+-- what is in both sets, in one of the two, and when two sets meet
+pub has-shared-iff : (n x y j : ℕ) → (has (shared n x y) j ≡ true) ↔ ((j < n) × (has x j ≡ true) × (has y j ≡ true))
+unfolding shared
+has-shared-iff n x y j = (
+  λ h.
+      let r = has-setOf-iff n (λ k. has x k && has y k) j .0 h in
+      let e = and-both (has x j) (has y j) (r .1) in
+      (r .0, e .0, e .1),
+  λ r. has-setOf-iff n (λ k. has x k && has y k) j .1 (r .0, and-true (r .1) (r .2)),
+)
+
+pub has-joined-iff : (n x y j : ℕ) → (has (joined n x y) j ≡ true) ↔ ((j < n) × ((has x j ≡ true) ⊎ (has y j ≡ true)))
+unfolding joined
+has-joined-iff n x y j = (
+  λ h. let r = has-setOf-iff n (λ k. has x k || has y k) j .0 h in (r .0, or-either (has x j) (has y j) (r .1)),
+  λ r. has-setOf-iff n (λ k. has x k || has y k) j .1 (r .0, ⊎-elim (λ (t : has x j ≡ true). or-left (has y j) t) (λ (t : has y j ≡ true). or-right (has x j) t) (r .1)),
+)
+
+pub meeting-iff : (n x y : ℕ) → (meeting n x y ≡ true) ↔ ((j : ℕ) × (j < n) × (has x j ≡ true) × (has y j ≡ true))
+unfolding meeting
+meeting-iff n x y = (
+  λ h.
+      let r = some-of n (λ j. has x j && has y j) h in
+      let e = and-both (has x (r .0)) (has y (r .0)) (r .2) in
+      (r .0, r .1, e .0, e .1),
+  λ r. some-at n (λ j. has x j && has y j) (r .0) (r .1) (and-true (r .2) (r .3)),
+)
 
 -- a set without one of its members is a smaller number: a loop that takes out one member after the other ends
 pub remove-falls : (n x i : ℕ) → x < 2 ^ n → i < n → has x i ≡ true → removed n x i < x
