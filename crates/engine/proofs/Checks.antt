@@ -16,7 +16,7 @@ use Rattle.engine.specs.declared.calls.Refusal.{Refusal}
 use Rattle.engine.specs.declared.calls.Refusal.the-variants.{AboveLimit, AlreadyThere, NotThere, NotOpen, SessionFull, NotConflicting, VersionsSpent, NoSuchFlow}
 use Rattle.engine.specs.declared.calls.Verdict.{Verdict}
 use Rattle.engine.specs.declared.calls.Verdict.the-variants.{Granted, Refused}
-use Rattle.engine.specs.Rows.{refuse, outside, spent, assignRows, permitRows, revokeRows, conflictRows, flowRows, addRows}
+use Rattle.engine.specs.Rows.{refuse, outside, spent, assignRows, withdrawRows, permitRows, revokeRows, forwardRows, conflictRows, flowRows, addRows}
 
 pub met : {b : Bool} (why : Refusal) (later : Verdict) → b ≡ true → Refused why ≡ refuse b why later
 met why later e = rw e
@@ -109,6 +109,27 @@ unspent-revoke roles readers version r d h =
     let q = passed (leb 64 d) AboveLimit _ (p .1) in
     let t = passed (not (there readers d r)) NotThere _ (q .1) in
     passed (spent roles version r) VersionsSpent _ (t .1) .0
+
+-- and the row that it changes is there
+pub within-withdraw : (roles : List ℕ) (u r : ℕ) → withdrawRows roles u r ≡ Granted → u < 256
+unfolding withdrawRows
+within-withdraw roles u r h = leb-false 256 u (passed (leb 256 u) AboveLimit _ h .0)
+
+pub within-permit : (roles readers : List ℕ) (version r d : ℕ) → permitRows roles readers version r d ≡ Granted → d < 64
+unfolding permitRows
+within-permit roles readers version r d h =
+    let p = passed (leb 64 r) AboveLimit _ h in
+    leb-false 64 d (passed (leb 64 d) AboveLimit _ (p .1) .0)
+
+pub within-revoke : (roles readers : List ℕ) (version r d : ℕ) → revokeRows roles readers version r d ≡ Granted → d < 64
+unfolding revokeRows
+within-revoke roles readers version r d h =
+    let p = passed (leb 64 r) AboveLimit _ h in
+    leb-false 64 d (passed (leb 64 d) AboveLimit _ (p .1) .0)
+
+pub within-forward : (forwards counts : List ℕ) (d x : ℕ) → forwardRows forwards counts d x ≡ Granted → d < 64
+unfolding forwardRows
+within-forward forwards counts d x h = leb-false 64 d (passed (leb 64 d) AboveLimit _ h .0)
 
 -- a flow that is there stands inside the arrays
 pub record Present (counts : List ℕ) (s f : ℕ) : Type 0 where

@@ -11,3 +11,4 @@ pub mod SeenChanges
 pub mod Seen
 pub mod Demands
 pub mod Steps
+pub mod Additions

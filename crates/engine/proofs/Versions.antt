@@ -12,6 +12,7 @@ use lib.Seq.{getD-set-same, getD-set-other}
 use lib.Arith.{lt-of-le-ne}
 use native.Mathlib.Nat.{le-pred-of-lt}
 use borrow.Author.Tests.{eqb-true, eqb-false, eq-eqb, lt-ltb, le-ltb}
+use Rattle.sets.specs.Laws.{some-at}
 use Rattle.tables.specs.Rows.{there}
 use Rattle.tables.specs.Tables.{heldBy}
 use Rattle.engine.specs.Rows.{spent}
@@ -25,6 +26,19 @@ one-renewed n versions u v l h = is-listOf n (λ w. cond (eqb w u) v (getD versi
     go : (w : ℕ) (b : Bool) → eqb w u ≡ b → getD (set versions u v) w 0 ≡ cond b v (getD versions w 0)
     go w true e = rw (eqb-true w u e) (getD-set-same versions u v 0 (rw l h))
     go w false e = getD-set-other versions u w v 0 (eqb-false w u e)
+
+-- nobody's version is
+pub nobody-renewed : (n : ℕ) (named : ℕ → Bool) (versions : List ℕ) (v : ℕ) → length versions ≡ n → ((w : ℕ) → w < n → named w ≡ false) → versions ≡ listOf n (λ w. cond (named w) v (getD versions w 0))
+nobody-renewed n named versions v l f = is-listOf n (λ w. cond (named w) v (getD versions w 0)) 0 versions l (λ w k. rw (f w k))
+
+-- a role that nobody holds
+pub unheld : (n : ℕ) (roles : List ℕ) (r : ℕ) → heldBy n roles r ≡ false → (w : ℕ) → w < n → there roles w r ≡ false
+unfolding heldBy
+unheld n roles r h w l = go (there roles w r) refl
+  where
+    go : (b : Bool) → there roles w r ≡ b → b ≡ false
+    go true e = sym (some-at n (λ u. there roles u r) w l e) ∙ h
+    go false e = refl
 
 -- where the holders of r are due a new version and it isn't spent, there is one
 pub unspent : (roles : List ℕ) (version r : ℕ) → spent roles version r ≡ false → heldBy 256 roles r ≡ true → version < 65536 → version < 65535

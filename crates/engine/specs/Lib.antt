@@ -7,4 +7,5 @@ pub mod Demands
 pub mod Meaning
 pub mod Search
 pub mod Steps
+pub mod Additions
 pub mod Laws

@@ -20,7 +20,7 @@ ghost use Rattle.engine.specs.Rows.{spent};
 ghost use Rattle.engine.specs.Calls.{withTables, toHolders, sessionOpened, flowPut};
 
 // The users' versions with v for every holder of role r.
-fn renewed(
+pub(crate) fn renewed(
     versions: [Version; Engine::USERS],
     roles: &[u64; Engine::USERS],
     r: usize,

@@ -2,6 +2,7 @@
 mod calls;
 mod change;
 pub mod check;
+pub mod flow;
 mod search;
 pub mod step;
 

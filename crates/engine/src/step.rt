@@ -3,18 +3,18 @@
 use super::Answer;
 use super::Call;
 use super::Constraint;
-use super::Directory;
 use super::Engine;
 use super::Refusal;
-use super::Sessions;
 use super::Verdict;
 use super::Version;
+use super::change;
 use super::check;
 use super::search;
 use tables::lent;
 ghost use mathlib.Core.Path.{_≡_};
 ghost use Prim.Native.Nat.{_<_};
-ghost use Rattle.engine.specs.Steps.{placeIn, placeOf, decided, directoryWith, sessionsWith, answeredWith};
+ghost use Rattle.engine.specs.Steps.{placeIn, placeOf, decided, answeredWith, repliedWith, partOf, openedWith};
+ghost use Rattle.engine.specs.Steps.{rolesWith, readersWith, forwardsWith, versionWith, versionsWith};
 
 // Where flow f of session s stands, and 0 where there is no such place.
 pub fn place(s: usize, f: usize) -> usize
@@ -132,113 +132,211 @@ pub fn decide<'a>(
     }
 }
 
-impl Directory {
-    // The directory after an accepted call.
-    pub fn with(self, call: Call) -> Directory
-        ensures { λ d. ⌜ d ≡ directoryWith self call ⌝ }
-    {
-        match call {
-            Call::Assign { user, role } => {
-                if Engine::USERS <= user {
-                    return self;
-                }
-                if self.version == Engine::LAST_VERSION {
-                    return self;
-                }
-                self.assigned(user, role)
+// Who holds which role after an accepted call, in place.
+pub fn put_roles(roles: &mut [u64; Engine::USERS], call: Call)
+    ensures { λ _. ⌜ now (roles .exit) ≡ rolesWith (now (roles .entry)) call ⌝ }
+{
+    match call {
+        Call::Assign { user, role } => {
+            if user < Engine::USERS {
+                roles[user] = sets::insert(roles[user], role);
             }
-            Call::Withdraw { user, role } => self.withdrawn(user, role),
-            Call::Permit { role, database } => {
-                if check::spends(&self.tables.roles, self.version, role) {
-                    return self;
-                }
-                self.permitted(role, database)
+        }
+        Call::Withdraw { user, role } => {
+            if user < Engine::USERS {
+                roles[user] = sets::remove(roles[user], role);
             }
-            Call::Revoke { role, database } => {
-                if check::spends(&self.tables.roles, self.version, role) {
-                    return self;
-                }
-                self.revoked(role, database)
+        }
+        Call::Permit {
+            role: _,
+            database: _,
+        } => {}
+        Call::Revoke {
+            role: _,
+            database: _,
+        } => {}
+        Call::Forward { from: _, to: _ } => {}
+        Call::Open { session: _ } => {}
+        Call::Conflicting {
+            session: _,
+            root: _,
+        } => {}
+        Call::Add {
+            session: _,
+            root: _,
+            chosen: _,
+        } => {}
+        Call::Read {
+            user: _,
+            session: _,
+            flow: _,
+            database: _,
+        } => {}
+        Call::Show {
+            session: _,
+            flow: _,
+        } => {}
+        Call::Unreadable => {}
+    }
+}
+
+// Which role may read which database after an accepted call, in place.
+pub fn put_readers(readers: &mut [u64; Engine::DATABASES], call: Call)
+    ensures { λ _. ⌜ now (readers .exit) ≡ readersWith (now (readers .entry)) call ⌝ }
+{
+    match call {
+        Call::Permit { role, database } => {
+            if database < Engine::DATABASES {
+                readers[database] = sets::insert(readers[database], role);
             }
-            Call::Forward { from, to } => self.forwarded(from, to),
-            Call::Open { session: _ } => self,
-            Call::Conflicting {
-                session: _,
-                root: _,
-            } => self,
-            Call::Add {
-                session: _,
-                root: _,
-                chosen: _,
-            } => self,
-            Call::Read {
-                user: _,
-                session: _,
-                flow: _,
-                database: _,
-            } => self,
-            Call::Show {
-                session: _,
-                flow: _,
-            } => self,
-            Call::Unreadable => self,
+        }
+        Call::Revoke { role, database } => {
+            if database < Engine::DATABASES {
+                readers[database] = sets::remove(readers[database], role);
+            }
+        }
+        Call::Assign { user: _, role: _ } => {}
+        Call::Withdraw { user: _, role: _ } => {}
+        Call::Forward { from: _, to: _ } => {}
+        Call::Open { session: _ } => {}
+        Call::Conflicting {
+            session: _,
+            root: _,
+        } => {}
+        Call::Add {
+            session: _,
+            root: _,
+            chosen: _,
+        } => {}
+        Call::Read {
+            user: _,
+            session: _,
+            flow: _,
+            database: _,
+        } => {}
+        Call::Show {
+            session: _,
+            flow: _,
+        } => {}
+        Call::Unreadable => {}
+    }
+}
+
+// Which database forwards to which after an accepted call, in place.
+pub fn put_forwards(forwards: &mut [u64; Engine::DATABASES], call: Call)
+    ensures { λ _. ⌜ now (forwards .exit) ≡ forwardsWith (now (forwards .entry)) call ⌝ }
+{
+    if let Call::Forward { from, to } = call {
+        if from < Engine::DATABASES {
+            forwards[from] = sets::insert(forwards[from], to);
         }
     }
 }
 
-impl Sessions {
-    // The sessions after an accepted call, where d is the directory.
-    pub fn with(self, d: Directory, call: Call) -> Sessions
-        ensures { λ x. ⌜ x ≡ sessionsWith self d call ⌝ }
-    {
-        match call {
-            Call::Open { session } => self.with_session(session),
-            Call::Add {
-                session,
-                root,
-                chosen,
-            } => {
-                if Engine::SESSIONS <= session {
-                    return self;
-                }
-                if Engine::FLOWS <= self.counts[session] {
-                    return self;
-                }
-                self.added(d, session, root, chosen)
+// The system version after an accepted call.
+pub fn next_version(roles: &[u64; Engine::USERS], version: Version, call: Call) -> Version
+    ensures { λ v. ⌜ v ≡ versionWith (now (roles .entry)) version call ⌝ }
+{
+    if version == Engine::LAST_VERSION {
+        return version;
+    }
+    match call {
+        Call::Assign { user: _, role: _ } => version + 1,
+        Call::Permit { role, database: _ } => {
+            if lent::held(roles, role) {
+                return version + 1;
             }
-            Call::Assign { user: _, role: _ } => self,
-            Call::Withdraw { user: _, role: _ } => self,
-            Call::Permit {
-                role: _,
-                database: _,
-            } => self,
-            Call::Revoke {
-                role: _,
-                database: _,
-            } => self,
-            Call::Forward { from: _, to: _ } => self,
-            Call::Conflicting {
-                session: _,
-                root: _,
-            } => self,
-            Call::Read {
-                user: _,
-                session: _,
-                flow: _,
-                database: _,
-            } => self,
-            Call::Show {
-                session: _,
-                flow: _,
-            } => self,
-            Call::Unreadable => self,
+            version
         }
+        Call::Revoke { role, database: _ } => {
+            if lent::held(roles, role) {
+                return version + 1;
+            }
+            version
+        }
+        Call::Withdraw { user: _, role: _ } => version,
+        Call::Forward { from: _, to: _ } => version,
+        Call::Open { session: _ } => version,
+        Call::Conflicting {
+            session: _,
+            root: _,
+        } => version,
+        Call::Add {
+            session: _,
+            root: _,
+            chosen: _,
+        } => version,
+        Call::Read {
+            user: _,
+            session: _,
+            flow: _,
+            database: _,
+        } => version,
+        Call::Show {
+            session: _,
+            flow: _,
+        } => version,
+        Call::Unreadable => version,
     }
 }
 
-// The answer of an accepted call: of a change of a table or an opening after it, of an addition
-// before it.
-pub fn answer<'a>(
+// The users' versions after an accepted call, where v is the system version after it.
+pub fn next_versions(
+    versions: [Version; Engine::USERS],
+    roles: &[u64; Engine::USERS],
+    v: Version,
+    call: Call,
+) -> [Version; Engine::USERS]
+    ensures { λ n. ⌜ n ≡ versionsWith versions (now (roles .entry)) v call ⌝ }
+{
+    match call {
+        Call::Assign { user, role: _ } => {
+            let mut new = versions;
+            if user < Engine::USERS {
+                new[user] = v;
+            }
+            new
+        }
+        Call::Permit { role, database: _ } => change::renewed(versions, roles, role, v),
+        Call::Revoke { role, database: _ } => change::renewed(versions, roles, role, v),
+        Call::Withdraw { user: _, role: _ } => versions,
+        Call::Forward { from: _, to: _ } => versions,
+        Call::Open { session: _ } => versions,
+        Call::Conflicting {
+            session: _,
+            root: _,
+        } => versions,
+        Call::Add {
+            session: _,
+            root: _,
+            chosen: _,
+        } => versions,
+        Call::Read {
+            user: _,
+            session: _,
+            flow: _,
+            database: _,
+        } => versions,
+        Call::Show {
+            session: _,
+            flow: _,
+        } => versions,
+        Call::Unreadable => versions,
+    }
+}
+
+// The open sessions after an accepted call.
+pub fn next_opened(opened: u64, call: Call) -> u64
+    ensures { λ r. ⌜ r ≡ openedWith opened call ⌝ }
+{
+    if let Call::Open { session } = call {
+        return sets::insert(opened, session);
+    }
+    opened
+}
+
+// The answer of an accepted call, from the directory after the call and the sessions before it.
+fn answer<'a>(
     roles: &'a [u64; Engine::USERS],
     readers: &'a [u64; Engine::DATABASES],
     forwards: &'a [u64; Engine::DATABASES],
@@ -312,5 +410,74 @@ pub fn answer<'a>(
         Call::Forward { from: _, to: _ } => Answer::Version(version),
         Call::Open { session: _ } => Answer::Version(version),
         Call::Unreadable => Answer::Refused(Refusal::Malformed),
+    }
+}
+
+// What of an engine a call changes, by its verdict: the directory, the open sessions, or the flows.
+pub enum Part {
+    Directory,
+    Opened,
+    Flows,
+    Nothing,
+}
+
+pub fn changes(v: Verdict, call: Call) -> Part
+    ensures { λ p. ⌜ p ≡ partOf v call ⌝ }
+{
+    if let Verdict::Refused(_) = v {
+        return Part::Nothing;
+    }
+    match call {
+        Call::Read {
+            user: _,
+            session: _,
+            flow: _,
+            database: _,
+        } => Part::Nothing,
+        Call::Conflicting {
+            session: _,
+            root: _,
+        } => Part::Nothing,
+        Call::Show {
+            session: _,
+            flow: _,
+        } => Part::Nothing,
+        Call::Unreadable => Part::Nothing,
+        Call::Open { session: _ } => Part::Opened,
+        Call::Add {
+            session: _,
+            root: _,
+            chosen: _,
+        } => Part::Flows,
+        Call::Assign { user: _, role: _ } => Part::Directory,
+        Call::Withdraw { user: _, role: _ } => Part::Directory,
+        Call::Permit {
+            role: _,
+            database: _,
+        } => Part::Directory,
+        Call::Revoke {
+            role: _,
+            database: _,
+        } => Part::Directory,
+        Call::Forward { from: _, to: _ } => Part::Directory,
+    }
+}
+
+// The answer to a call by its verdict, from the directory after the call and the sessions before.
+pub fn reply<'a>(
+    v: Verdict,
+    roles: &'a [u64; Engine::USERS],
+    readers: &'a [u64; Engine::DATABASES],
+    forwards: &'a [u64; Engine::DATABASES],
+    version: Version,
+    counts: &'a [usize; Engine::SESSIONS],
+    reaches: &'a [u64; Engine::PLACES],
+    call: Call,
+) -> Answer
+    ensures { λ a. ⌜ a ≡ repliedWith v (now (roles .entry)) (now (readers .entry)) (now (forwards .entry)) version (now (counts .entry)) (now (reaches .entry)) call ⌝ }
+{
+    match v {
+        Verdict::Refused(why) => Answer::Refused(why),
+        Verdict::Granted => answer(roles, readers, forwards, version, counts, reaches, call),
     }
 }
