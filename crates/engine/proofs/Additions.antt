@@ -8,6 +8,7 @@ use native.Mathlib.Omega.{arith}
 use lib.Dec.{leb}
 use lib.ListN.{getD, set}
 use borrow.Author.Tests.{lt-leb, lt-ltb}
+use Rattle.tables.specs.Reach.{reach}
 use Rattle.engine.specs.declared.Constraint.{Constraint}
 use Rattle.engine.specs.declared.Directory.{Directory}
 use Rattle.engine.specs.declared.Sessions.{Sessions}
@@ -46,6 +47,13 @@ constraint-same : (D : Directory) (S : Sessions) (s root chosen : ℕ) → getD 
     ≡ newConstraint D S s root chosen
 unfolding constraintFrom newConstraint
 constraint-same D S s root chosen m = rw (deny-before (S .constraints) s (getD (S .counts) s 0) m)
+
+-- an addition where there is room for it
+pub room-there : (D : Directory) (S : Sessions) (s root chosen : ℕ) (a : Addition) → s < 16 → getD (S .counts) s 0 < 8
+    → a ≡ additionOf (D .tables .roles) (D .tables .readers) (D .tables .forwards) (D .version) (S .counts) (S .reaches) (getD (S .constraints) (lastPlace s (getD (S .counts) s 0)) noConstraint .deny) s root chosen
+    → flowPut S s root (a .reach) (a .constraint) ≡ flowPut S s root (reach 64 (D .tables .forwards) root) (newConstraint D S s root chosen)
+unfolding additionOf
+room-there D S s root chosen a l m q = rw (q, lt-leb 16 s l, lt-leb 8 (getD (S .counts) s 0) m, constraint-same D S s root chosen m)
 
 -- what is stored of an engine's call
 abbrev pub storedOf : Engine → Call → Addition

@@ -9,8 +9,8 @@ use lib.Dec.{leb, ltb, eqb}
 use lib.ListN.{length, getD, set, replicate, length-set, length-replicate}
 use lib.Seq.{getD-set-same, getD-set-other}
 use borrow.Author.Tests.{leb-false, eqb-true, eqb-false, eq-eqb, ne-eqb, not-false}
-use Rattle.sets.specs.Sets.{has, inserted}
-use Rattle.sets.specs.Laws.{or-neither, some-at, has-inserted}
+use Rattle.sets.specs.Sets.{has, inserted, sizeOf}
+use Rattle.sets.specs.Laws.{or-neither, some-at, has-inserted, count-cong}
 use Rattle.tables.specs.Rows.{there, struck}
 use Rattle.tables.specs.Rows.{entered as rowEntered}
 use Rattle.tables.specs.Tables.{heldBy, assigned, withdrawn, permitted, revoked, forwarded, withRoles, withReaders, withForwards}
@@ -27,20 +27,35 @@ use Rattle.engine.specs.declared.calls.Verdict.{Verdict}
 use Rattle.engine.specs.declared.calls.Verdict.the-variants.{Granted, Refused}
 use Rattle.engine.specs.State.{fresh, noSessions, listOf, newVersion}
 use Rattle.engine.specs.Rows.{refuse, assignRows, withdrawRows, permitRows, revokeRows, forwardRows, openRows, addRows}
-use Rattle.engine.specs.Calls.{numberOf, returned, verdict, withTables, withDirectory, withSessions, toHolders, sessionOpened, flowPut, changed, afterVerdict, after, answerOf, answer}
+use Rattle.engine.specs.Calls.{numberOf, returned, verdict, withTables, withDirectory, withSessions, toHolders, sessionOpened, flowPut, changed, afterVerdict, after, accepted, answerOf, answer}
 use Rattle.engine.specs.Ledger.{Ledger, start}
-use Rattle.engine.specs.Refusals.{due, accepts, renewed, entered, taken}
-use Rattle.engine.specs.Demands.{Demand1, flowSeen, seen, isRead}
+use Rattle.engine.specs.Refusals.{due, accepts, newFlow, renewed, entered, taken}
+use Rattle.engine.specs.Demands.{Told, Demand1, flowSeen, seen, isRead}
 use Rattle.engine.specs.Laws.{getD-same, listOf-zero, length-listOf}
 use Rattle.engine.proofs.Invariants.{Sized}
-use Rattle.engine.proofs.SeenRows.{number, accepts-seen, holds-seen}
+use Rattle.engine.proofs.SeenRows.{number, accepts-seen, holds-seen, reach-seen, length-flows, conflicts-seen}
 use Rattle.engine.proofs.SeenChanges.{same-ledger, nothing, renewed-none, renewed-some, holders-seen, same-assign, same-withdraw, same-permit, same-revoke, same-forward, same-open, same-add}
 
 -- ---- demand 1
 
+-- the accepted answer is the one that the ledger has
+told : (e : Engine) (c : Call) → verdict e c ≡ Granted → Told (seen e) (seen (changed e c)) c (accepted e c)
+unfolding verdict accepted seen sizeOf newFlow
+told e (Assign u r) h = refl
+told e (Withdraw u r) h = refl
+told e (Permit r d) h = refl
+told e (Revoke r d) h = refl
+told e (Forward d x) h = refl
+told e (Open s) h = refl
+told e (Conflicting s root) h = (refl, λ r l. conflicts-seen e s root (newFlow (seen e) s root 0) (λ d k. reach-seen e root d k) r l)
+told e (Add s root chosen) h = rw (length-flows e s, count-cong 64 _ _ (reach-seen e root))
+told e (Read u s f d) h = refl
+told e (Show s f) h = refl
+told e Unreadable h = absurd (let z : _≡_ {A = ℕ} 0 1 = cc in omega arith)
+
 pub demand1 : (e : Engine) (c : Call) → Demand1 e c
 unfolding answer answerOf after afterVerdict
-demand1 e c = record { number = number e c; refused = λ why h. (rw h, rw h); granted = λ h. (rw h, rw h) }
+demand1 e c = record { number = number e c; refused = λ why h. (rw h, rw h); granted = λ h. (rw h, rw h); told = λ h. rw h (told e c h) }
 
 -- ---- what an accepted call says of its numbers
 

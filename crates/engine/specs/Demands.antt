@@ -1,30 +1,32 @@
 -- The client's demands 1 and 3 as statements about the definitions of Calls, which the contracts promise of the code.
 -- Assumes nothing.
-use Prim.Native.Nat.{ℕ, zero, suc, _<_}
+use Prim.Native.Nat.{ℕ, zero, suc, _+_, _<_}
 use mathlib.Core.Path.{_≡_}
 use mathlib.Core.Bool.{Bool, true, false, cond, _&&_, _||_}
 use mathlib.Core.List.{List, [], _∷_}
 use mathlib.Core.Logic.{_≢_}
 use lib.Dec.{ltb, eqb}
 use lib.ListN.{length, getD, take}
-use Rattle.sets.specs.Sets.{has}
+use Rattle.sets.specs.Sets.{has, count}
 use Rattle.tables.specs.Rows.{there}
 use Rattle.engine.specs.declared.Engine.{Engine}
 use Rattle.engine.specs.declared.calls.Refusal.{Refusal}
 use Rattle.engine.specs.declared.calls.Refusal.the-variants.{Linkable}
-use Rattle.engine.specs.declared.calls.Answer.the-variants.{Refused as Answer·Refused}
+use Rattle.engine.specs.declared.calls.Answer.{Answer}
+use Rattle.engine.specs.declared.calls.Answer.the-variants.{Version, Roles, Flow, Granted as Answer·Granted, Constraint as Answer·Constraint, Refused as Answer·Refused}
 use Rattle.engine.specs.declared.calls.Call.{Call}
 use Rattle.engine.specs.declared.calls.Call.the-variants.{Assign, Withdraw, Permit, Revoke, Forward, Open, Conflicting, Add, Read, Show, Unreadable}
 use Rattle.engine.specs.declared.calls.Verdict.{Verdict}
 use Rattle.engine.specs.declared.calls.Verdict.the-variants.{Granted, Refused}
 use Rattle.engine.specs.State.{fresh, place, listOf, constraintAt, linkable}
 use Rattle.engine.specs.Calls.{verdict, returned, changed, after, accepted, answer}
-use Rattle.engine.specs.Ledger.{Ledger, Flow, start, flowOf, holdsDenied, linked}
-use Rattle.engine.specs.Refusals.{table, firstMet, earlierRefusal, accepts, ledgerAfter}
+use Rattle.engine.specs.Ledger.{Ledger, start, flowOf, reachOf, isConflicting, holdsDenied, linked}
+use Rattle.engine.specs.Ledger.{Flow as Flow·}
+use Rattle.engine.specs.Refusals.{table, firstMet, earlierRefusal, accepts, newFlow, ledgerAfter}
 
 -- ---- an engine as a ledger sees it
 
-unfoldable pub flowSeen : Engine → ℕ → ℕ → Flow
+unfoldable pub flowSeen : Engine → ℕ → ℕ → Flow·
 flowSeen e s f = record {
   root = getD (e .sessions .roots) (place s f) 0;
   reach = λ d. ltb d 64 && has (getD (e .sessions .reaches) (place s f) 0) d;
@@ -49,6 +51,34 @@ storedLinkable e u s f = linkable (getD (e .directory .tables .roles) u 0) (cons
 
 -- ---- demand 1, for every engine and every call
 
+-- the role set of an answer
+abbrev pub rolesIn : Answer → ℕ
+rolesIn (Version v) = 0
+rolesIn (Roles m) = m
+rolesIn (Flow n k v) = 0
+rolesIn Answer·Granted = 0
+rolesIn (Answer·Constraint n) = 0
+rolesIn (Answer·Refused why) = 0
+
+-- document 01's "Returned when accepted", by the ledger before the call and after it
+abbrev pub Told : Ledger → Ledger → Call → Answer → Type 0
+-- "for 01–06 the system version"
+Told l m (Assign u r) a = a ≡ Version (m .system)
+Told l m (Withdraw u r) a = a ≡ Version (m .system)
+Told l m (Permit r d) a = a ≡ Version (m .system)
+Told l m (Revoke r d) a = a ≡ Version (m .system)
+Told l m (Forward d x) a = a ≡ Version (m .system)
+Told l m (Open s) a = a ≡ Version (m .system)
+-- "for 07 the role set": the conflicting roles with a flow of this root counted in
+Told l m (Conflicting s root) a = (a ≡ Roles (rolesIn a)) × ((r : ℕ) → r < 64 → has (rolesIn a) r ≡ isConflicting l s (newFlow l s root 0) r)
+-- "for 08 flow number, count of databases in the reach, version"
+Told l m (Add s root chosen) a = a ≡ Flow (length (l .flows s)) (count 64 (reachOf l root)) (l .system)
+-- "for 09 nothing"
+Told l m (Read u s f d) a = a ≡ Answer·Granted
+-- for 0a the constraint, which stands beside the answer, with the role sets of f + 1 flows
+Told l m (Show s f) a = a ≡ Answer·Constraint (f + 1)
+Told l m Unreadable a = ⊥
+
 pub record Demand1 (e : Engine) (c : Call) : Type 0 where
   -- what is returned is the number of the first row met, in the document's order, and 0 where none is
   pub number : returned (verdict e c) ≡ firstMet (table (seen e) (storedLinkable e)) c
@@ -56,6 +86,8 @@ pub record Demand1 (e : Engine) (c : Call) : Type 0 where
   pub refused : (why : Refusal) → verdict e c ≡ Refused why → (answer e c ≡ Answer·Refused why) × (after e c ≡ e)
   -- every other call ends with its accepted answer and its change
   pub granted : verdict e c ≡ Granted → (answer e c ≡ accepted e c) × (after e c ≡ changed e c)
+  -- and that is the answer which the document gives
+  pub told : verdict e c ≡ Granted → Told (seen e) (seen (changed e c)) c (answer e c)
 
 -- ---- demand 3
 

@@ -27,7 +27,7 @@ use Rattle.engine.specs.declared.calls.Call.the-variants.{Assign, Withdr
 use Rattle.engine.specs.declared.calls.Verdict.the-variants.{Granted, Refused}
 use Rattle.engine.specs.State.{sessionCount, flowCount, placeCount, place, noConstraint, constraintAt, reachWith, readsTwo, conflicts, conflictsIn, conflictsWith, roleSet, denyBefore, newConstraint, linkable, newVersion, noSessions, fresh}
 use Rattle.engine.specs.Rows.{refuse, flowRows, readRows, readVerdict}
-use Rattle.engine.specs.Calls.{verdict, withTables, withDirectory, withSessions, toHolders, sessionOpened, flowPut, changed}
+use Rattle.engine.specs.Calls.{verdict, withTables, withDirectory, withSessions, toHolders, sessionOpened, flowPut, changed, shownConstraint, shownBy}
 use Rattle.engine.specs.Laws.{getD-same, getD-listOf, getD-listOf-past, places, place-lt}
 
 -- ---- flows: how many a session has, and what is kept of each
@@ -392,6 +392,11 @@ pub open-keeps : (e : Engine) (s t f : ℕ) → (flowsOf (changed e (Open s)) t 
     × (reachAt (changed e (Open s)) t f ≡ reachAt e t f) × (constraintOf (changed e (Open s)) t f ≡ constraintOf e t f)
 unfolding changed withSessions sessionOpened
 open-keeps e s t f = (refl, refl, refl, refl)
+
+-- what 0a shows is the flow's own constraint
+pub shown-kept : (e : Engine) (s f : ℕ) → verdict e (Show s f) ≡ Granted → shownBy e s f .constraint ≡ constraintAt (e .sessions .constraints) s f
+unfolding shownBy shownConstraint
+shown-kept e s f h = rw h
 
 -- ---- the verdict on a read
 

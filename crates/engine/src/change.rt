@@ -4,7 +4,7 @@ use super::Directory;
 use super::Engine;
 use super::Sessions;
 use super::Version;
-use super::search;
+use super::flow;
 use tables::lent;
 ghost use mathlib.Core.Path.{_≡_};
 ghost use mathlib.Core.Bool.{false, cond};
@@ -15,7 +15,7 @@ ghost use Rattle.tables.specs.Rows.{there};
 ghost use Rattle.tables.specs.Reach.{reach};
 ghost use Rattle.tables.specs.Tables.{userCount, databaseCount};
 ghost use Rattle.tables.specs.Tables.{assigned, withdrawn, permitted, revoked, forwarded};
-ghost use Rattle.engine.specs.State.{listOf, newVersion, newConstraint, denyBefore};
+ghost use Rattle.engine.specs.State.{listOf, newVersion, newConstraint};
 ghost use Rattle.engine.specs.Rows.{spent};
 ghost use Rattle.engine.specs.Calls.{withTables, toHolders, sessionOpened, flowPut};
 
@@ -111,19 +111,6 @@ impl Sessions {
         self
     }
 
-    // The deny set of the last of the n flows of session s; of none it is empty.
-    fn deny_before(self, s: usize, n: usize) -> u64
-        requires { ⌜ s < 16 ⌝ }
-        requires { ⌜ n < 8 ⌝ }
-        ensures { λ r. ⌜ r ≡ denyBefore (self .constraints) s n ⌝ }
-    {
-        if n == 0 {
-            return 0;
-        }
-        let last = self.constraints[s * Engine::FLOWS + (n - 1)];
-        last.deny
-    }
-
     // Session s gets a flow.
     fn with_flow(mut self, s: usize, root: usize, reach: u64, c: Constraint) -> Sessions
         requires { ⌜ s < 16 ⌝ }
@@ -139,29 +126,28 @@ impl Sessions {
         self
     }
 
-    // Session s gets a flow with its constraint: the databases it reaches, the roles that may read
-    // them, and of those the ones that are kin to the deny set.
+    // Session s gets a flow with its constraint.
     pub(crate) fn added(self, d: Directory, s: usize, root: usize, chosen: u64) -> Sessions
         requires { ⌜ s < 16 ⌝ }
         requires { ⌜ getD (self .counts) s 0 < 8 ⌝ }
         ensures { λ x. ⌜ x ≡ flowPut self s root (reach databaseCount (d .tables .forwards) root) (newConstraint d self s root chosen) ⌝ }
     {
         let n = self.counts[s];
-        let reach = lent::reach(&d.tables.forwards, root);
-        let may = search::readers_by_flow(&d.tables.readers, &self.reaches, s, n, reach);
-        let deny = sets::union(self.deny_before(s, n), chosen);
-        let kin = lent::parents(&d.tables.roles, deny);
-        let roles = search::role_sets(may, kin);
-        let version = d.version;
-        self.with_flow(
+        let k = flow::last_place(s, n);
+        let last = self.constraints[k];
+        let a = flow::made(
+            &d.tables.roles,
+            &d.tables.readers,
+            &d.tables.forwards,
+            d.version,
+            &self.counts,
+            &self.reaches,
+            last.deny,
             s,
             root,
-            reach,
-            Constraint {
-                version,
-                deny,
-                roles,
-            },
-        )
+            chosen,
+        );
+        let constraint = a.constraint;
+        self.with_flow(s, root, a.reach, constraint)
     }
 }

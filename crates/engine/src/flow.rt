@@ -24,7 +24,7 @@ pub struct Addition {
 }
 
 // Where the last of the n flows of session s stands, and 0 where there is no such place.
-fn last_place(s: usize, n: usize) -> usize
+pub(crate) fn last_place(s: usize, n: usize) -> usize
     requires { ⌜ s < 16 ⌝ }
     ensures { λ r. ⌜ r ≡ lastPlace s n ⌝ }
     ensures { λ r. ⌜ r < 128 ⌝ }
@@ -84,7 +84,7 @@ fn nothing() -> Addition
 }
 
 // What an addition to session s stores, where `last` is the deny set of the session's last flow.
-fn made<'a>(
+pub(crate) fn made<'a>(
     roles: &'a [u64; Engine::USERS],
     readers: &'a [u64; Engine::DATABASES],
     forwards: &'a [u64; Engine::DATABASES],

@@ -1,32 +1,26 @@
-use Prim.Native.Nat.{ℕ}
-use mathlib.Core.Path.{_≡_, ap, ap₂, _∙_}
+use mathlib.Core.Path.{_≡_, _∙_}
+use native.Mathlib.Omega.{arith}
 use borrow.Author.Needs.{needs}
-use Rattle.engine.specs.State.{newConstraint}
-use Rattle.engine.proofs.SearchLaws.{role-sets-made}
+use Rattle.engine.proofs.Additions.{room-there}
 use Rattle.engine.proofs.Sessions.added.Statement.{statement}
 use Rattle.engine.proofs.Sessions.added.Tie as tie
 
 returns : tie.Need-returns
-unfolding newConstraint
 returns c =
-    let roles = c .before in
-    let kin = roles .before in
-    let deny = kin .before .before .before in
-    let may = deny .before .before in
-    let reach = may .before .before .before .before .before in
-    rw (c .with-flow .ensures, roles .role-sets .ensures, kin .parents .ensures, may .readers-by-flow .ensures, deny .union .ensures, deny .before .deny-before .ensures, reach .reach .ensures, role-sets-made)
+    let made = c .before .before in
+    let place = made .before .before .before .before .before .before .before .before .before in
+    let start = place .before .before in
+    c .with-flow .ensures ∙ room-there (start .args .t2) (start .args .t1) (start .args .s) (start .args .root) (start .args .chosen) (made .made .result) (omega arith) (omega arith) (rw (made .made .ensures .0, place .last-place .ensures .0))
 
 pub added-spec : {M : Type 1} → statement M
 added-spec =
     tie.close
     (tie.spec
+    (λ c. omega arith)
     (λ c. search needs)
+    (λ c κs. search needs)
+    (λ c. omega arith)
     (λ c. search needs)
-    (λ c κs. search needs)
-    (λ c κs. search needs)
-    (λ c κs. search needs)
-    (λ c κs. search needs)
-    (λ c κs. search needs)
     (λ c κs. search needs)
     (λ c κs. search needs)
     returns)
