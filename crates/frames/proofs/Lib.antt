@@ -1,0 +1,7 @@
+pub mod Reading
+pub mod Writing
+pub mod Streams
+pub mod Feeding
+pub mod Endings
+pub mod Stepping
+pub mod Demands

@@ -1,0 +1,17 @@
+-- The code goes by the definition's own test.
+use borrow.Author.Needs.{needs}
+use borrow.Author.Tests.{lt-ltb, le-ltb}
+use Rattle.frames.specs.Digits.{glyph}
+use Rattle.frames.proofs.write.glyph.Statement.{statement}
+use Rattle.frames.proofs.write.glyph.Tie as tie
+
+returns : tie.Need-returns
+unfolding glyph
+returns c = simp (lt-ltb _ _ (c .if1 .taken))
+
+returns-2 : tie.Need-returns-2
+unfolding glyph
+returns-2 c = simp (le-ltb _ _ (c .if1 .left))
+
+pub glyph-spec : {M : Type 1} → statement M
+glyph-spec = tie.close (tie.spec (λ c. search needs) (λ c. search needs) (λ c. search needs) (λ c. search needs) returns returns-2)

@@ -1,0 +1,28 @@
+-- The cases are the definition's.
+use borrow.Author.Needs.{needs}
+use Rattle.frames.specs.Lines.{returnedBy}
+use Rattle.frames.proofs.write.returned.Statement.{statement}
+use Rattle.frames.proofs.write.returned.Tie as tie
+
+returns : tie.Need-returns
+unfolding returnedBy
+returns c = rw (c .before .before .a .given .1) (c .number .ensures)
+
+pub returned-spec : {M : Type 1} → statement M
+unfolding returnedBy
+returned-spec =
+    tie.close
+    (tie.spec
+    (λ c. search needs)
+    (λ c κs. search needs)
+    (λ c. search needs)
+    (λ c. search needs)
+    (λ c. search needs)
+    (λ c. search needs)
+    (λ c. search needs)
+    returns
+    (λ c. search needs)
+    (λ c. search needs)
+    (λ c. search needs)
+    (λ c. search needs)
+    (λ c. search needs))
