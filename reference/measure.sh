@@ -1,0 +1,123 @@
+#!/bin/sh
+# measure.sh PROGRAM [LINES]
+#
+# CPU time (user and system) of PROGRAM and of the model on a list of reads and
+# a mixed list of LINES lines (1000000), in turn, RUNS runs each (9); medians
+# and their ratio.  Then what one read costs as users, roles, flows and
+# sessions in use grow.  MODEL names a model that is built already; SEED gives
+# other lists.  From the root of the repository:
+#     reference/measure.sh target/bin/linkage
+set -u
+if [ $# -lt 1 ] || [ $# -gt 2 ]; then
+    echo "usage: measure.sh PROGRAM [LINES]" >&2
+    exit 2
+fi
+here=$(CDPATH= cd -- "$(dirname -- "$0")" && pwd) || exit 2
+tmp=$(mktemp -d) || exit 2
+trap 'rm -rf "$tmp"' EXIT
+trap 'exit 2' INT TERM HUP
+model=${MODEL:-}
+if [ ! -x "$model" ]; then
+    model=$tmp/model
+    cc -O2 -o "$model" "$here/model.c" || exit 2
+fi
+lines=${2:-1000000}
+for kind in reads mixed; do
+    python3 "$here/generate.py" $kind "${SEED:-1}" "$lines" > "$tmp/$kind" || exit 2
+done
+python3 - "$1" "$lines" "$model" "$tmp" "${RUNS:-9}" <<'PYTHON'
+import os, shlex, shutil, statistics, subprocess, sys
+
+name, lines, model, tmp, runs = sys.argv[1:]
+lines, runs = int(lines), max(7, int(runs))
+found = name if os.path.isfile(name) else shutil.which(name)
+programs = [("program", [os.path.abspath(found)] if found else shlex.split(name)),
+            ("model", [model])]
+
+
+def cpu(command, path):
+    """CPU seconds of one run, output to /dev/null."""
+    pid = os.posix_spawnp(command[0], command, os.environ, file_actions=[
+        (os.POSIX_SPAWN_OPEN, 0, path, os.O_RDONLY, 0),
+        (os.POSIX_SPAWN_OPEN, 1, os.devnull, os.O_WRONLY, 0)])
+    _, status, use = os.wait4(pid, 0)
+    if os.WIFSIGNALED(status) or os.WEXITSTATUS(status) == 127:
+        sys.exit("%s failed" % command[0])
+    return use.ru_utime + use.ru_stime
+
+
+def medians(path):
+    """The programs in turn, so that both meet the machine in the same states."""
+    times = {n: [] for n, _ in programs}
+    for i in range(runs + 1):
+        for n, command in programs:
+            t = cpu(command, path)
+            if i:                           # the first round warms up
+                times[n].append(t)
+    return {n: statistics.median(t) for n, t in times.items()}
+
+
+print("median CPU time of %d runs, in turn" % runs)
+for kind in ("reads", "mixed"):
+    path = os.path.join(tmp, kind)
+    with open(path, "rb") as f:
+        count = sum(block.count(b"\n") for block in iter(lambda: f.read(1 << 20), b""))
+    m = medians(path)
+    print("%-6s %d lines" % (kind, count), end="")
+    for n, _ in programs:
+        print("   %s %.4f s, %.1f million lines/s" % (n, m[n], count / max(m[n], 1e-9) / 1e6), end="")
+    print("   program/model %.2f" % (m["program"] / max(m["model"], 1e-9)))
+    sys.stdout.flush()
+
+
+# Reads alone, all granted, of the flow added last (one user) or of all flows
+# (many).  From two flows on every reader holds a role of the deny set and meets
+# one role set: the longest way to a grant.  Role 2 is the denied one, role 10+f
+# reads database f, the root of flow f; user 255 reads all and makes role 2
+# conflict.
+def reads(path, users, roles, flows, sessions, count):
+    out = []
+    for f in range(flows):
+        out.append("03%02x%02x" % (10 + f, f))
+        out.append("01ff%02x" % (10 + f))
+    out.append("01ff02")
+    for u in range(users):
+        for r in [2, 10 + flows - 1 - u % flows] + list(range(20, 20 + roles)):
+            out.append("01%02x%02x" % (u, r))
+    for s in range(sessions):
+        out.append("06%02x" % s)
+        for f in range(flows):
+            out.append("08%02x%02x%016x" % (s, f, 4 if f == 1 else 0))
+    with open(path + ".set-up", "w") as f:
+        f.write("".join(x + "\n" for x in out))
+    ring, x = [], 1
+    for _ in range(4096):                   # in no order that a processor could learn
+        x = (x * 1103515245 + 12345) % 2 ** 31
+        u, s = (x >> 8) % users, (x >> 16) % sessions
+        f = flows - 1 - u % flows
+        ring.append("09%02x%02x%02x%02x\n" % (u, s, f, f))
+    block = "".join(ring)
+    with open(path, "w") as f:
+        f.write("".join(x + "\n" for x in out))
+        for _ in range(max(1, count // 4096)):
+            f.write(block)
+    with open(path, "rb") as f:
+        got = subprocess.run([model], stdin=f, stdout=subprocess.PIPE).stdout.split(b"\n")[:-1]
+    if any(answer[:2] != b"00" for answer in got):
+        sys.exit("a line of the list of reads is refused")
+    return max(1, count // 4096) * 4096
+
+
+cases = [("1 user, 2 roles, 1 flow, 1 session", (1, 0, 1, 1)), ("2 flows", (1, 0, 2, 1)),
+         ("8 flows", (1, 0, 8, 1)), ("16 sessions", (1, 0, 1, 16)), ("255 users", (255, 0, 1, 1)),
+         ("46 roles each", (1, 44, 1, 1)), ("all of these", (255, 44, 8, 16))]
+cost = {n: [] for n, _ in programs}
+for title, (u, r, f, s) in cases:
+    path = os.path.join(tmp, "only")
+    count = reads(path, u, r, f, s, lines)
+    with_reads, without = medians(path), medians(path + ".set-up")
+    for n, _ in programs:
+        cost[n].append("%s %.1f" % (title, (with_reads[n] - without[n]) / count * 1e9))
+for n, _ in programs:
+    print("ns a read, %s: %s" % (n, "; ".join(cost[n])))
+PYTHON

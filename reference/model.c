@@ -1,0 +1,549 @@
+/*
+ * The linkage engine of document 01: reference model and baseline of speed.
+ *
+ * Frames on standard input, one a line; one answer line each on standard
+ * output.  Sentences in quotation marks are document 01's.
+ *
+ *     cc -O2 -o model model.c         (C11)
+ *
+ * Role sets and sets of databases are masks of 64 bits, number 0 the lowest.
+ * A read takes the same steps whatever the tables and the sessions hold.
+ */
+
+#include <errno.h>
+#include <stdbool.h>
+#include <stddef.h>
+#include <stdint.h>
+#include <string.h>
+#include <unistd.h>
+
+/* "Users 0-255, roles 0-63, databases 0-63, sessions 0-15, at most 8 flows a
+ * session numbered 0-7 in order of addition, versions 0-65535." */
+enum {
+    USERS = 256, ROLES = 64, DATABASES = 64, SESSIONS = 16, FLOWS = 8,
+    LAST_VERSION = 65535
+};
+
+typedef uint64_t set;
+
+static inline set  one(unsigned n)          { return (set)1 << n; }
+static inline bool has(set s, unsigned n)   { return s >> n & 1; }
+static inline bool meet(set a, set b)       { return (a & b) != 0; }
+static inline unsigned lowest(set s)        { return (unsigned)__builtin_ctzll(s); }
+
+/* A flow and its constraint, "kept unchanged from then on".  The root is in
+ * the reach and is not asked for again. */
+struct flow {
+    set reach;              /* root and all that forwarding leads to from it */
+    set deny;
+    set roles[FLOWS];       /* one role set for each flow up to itself, then empty */
+    unsigned version;
+};
+
+/* "A fresh engine has 256 user versions of zero, system version 0, empty
+ * tables and no open session." */
+static struct {
+    set holds[USERS];           /* the roles that the user holds */
+    set readers[DATABASES];     /* the roles that may read the database */
+    set forwards[DATABASES];    /* the databases that it forwards to */
+    unsigned version[USERS];
+    unsigned system;
+    bool flow_added;            /* "some flow has been added in any session" */
+    bool open[SESSIONS];
+    unsigned count[SESSIONS];   /* flows of the session */
+    struct flow flow[SESSIONS][FLOWS];
+} engine;
+
+/* ------------------------------------------------- tables and versions --- */
+
+/* Every call returns 0 (accepted) or the number of the first row it meets;
+ * the checks stand in the order of the rows. */
+
+/* 01: "Assigning a role: a new version for that user." */
+static unsigned assign_role(unsigned user, unsigned role)
+{
+    if (role >= ROLES)                      return 2;
+    if (has(engine.holds[user], role))      return 3;
+    if (engine.system == LAST_VERSION)      return 9;
+    engine.holds[user] |= one(role);
+    engine.version[user] = ++engine.system;
+    return 0;
+}
+
+/* 02: "Withdrawing a role: no new version." */
+static unsigned withdraw_role(unsigned user, unsigned role)
+{
+    if (role >= ROLES)                      return 2;
+    if (!has(engine.holds[user], role))     return 4;
+    engine.holds[user] &= ~one(role);
+    return 0;
+}
+
+static bool anybody_holds(unsigned role)
+{
+    set all = 0;
+    for (unsigned u = 0; u < USERS; u++)
+        all |= engine.holds[u];
+    return has(all, role);
+}
+
+/* "Permitting or revoking a database for a role: a new version for all users
+ * who hold the role; if nobody does, none." */
+static void new_version_for_holders(unsigned role)
+{
+    unsigned v = ++engine.system;
+    for (unsigned u = 0; u < USERS; u++)
+        engine.version[u] = has(engine.holds[u], role) ? v : engine.version[u];
+}
+
+/* 03 */
+static unsigned permit_database(unsigned role, unsigned db)
+{
+    if (role >= ROLES || db >= DATABASES)   return 2;
+    if (has(engine.readers[db], role))      return 3;
+    bool due = anybody_holds(role);
+    if (due && engine.system == LAST_VERSION) return 9;
+    engine.readers[db] |= one(role);
+    if (due)
+        new_version_for_holders(role);
+    return 0;
+}
+
+/* 04 */
+static unsigned revoke_database(unsigned role, unsigned db)
+{
+    if (role >= ROLES || db >= DATABASES)   return 2;
+    if (!has(engine.readers[db], role))     return 4;
+    bool due = anybody_holds(role);
+    if (due && engine.system == LAST_VERSION) return 9;
+    engine.readers[db] &= ~one(role);
+    if (due)
+        new_version_for_holders(role);
+    return 0;
+}
+
+/* 05: row 3 stands "after 5" here.  "A database forwarding to itself is
+ * allowed." */
+static unsigned add_forwarding(unsigned from, unsigned to)
+{
+    if (from >= DATABASES || to >= DATABASES) return 2;
+    if (engine.flow_added)                  return 5;
+    if (has(engine.forwards[from], to))     return 3;
+    engine.forwards[from] |= one(to);
+    return 0;
+}
+
+/* 06 */
+static unsigned open_session(unsigned s)
+{
+    if (s >= SESSIONS)                      return 2;
+    if (engine.open[s])                     return 3;
+    engine.open[s] = true;
+    return 0;
+}
+
+/* ------------------------------------------ flows, conflicts, constraints --- */
+
+/* "The reach of a flow is its root and every database that forwarding leads
+ * to from it, in one or more steps." */
+static set reach_of(unsigned root)
+{
+    set reach = one(root), todo = reach;
+    while (todo) {
+        set next = engine.forwards[lowest(todo)] & ~reach;
+        todo &= todo - 1;
+        todo |= next;
+        reach |= next;
+    }
+    return reach;
+}
+
+/* The roles that may read a database in the reach, by the table of today. */
+static set readers_of(set reach)
+{
+    set roles = 0;
+    for (; reach; reach &= reach - 1)
+        roles |= engine.readers[lowest(reach)];
+    return roles;
+}
+
+/* "A role c is conflicting for a session if some user holds c and may
+ * statically read at least two of its flows. The search through flows ends at
+ * the second one found."  readers[i] is readers_of the reach of flow i. */
+static set conflicting(const set *readers, unsigned flows)
+{
+    set roles = 0;
+    for (unsigned u = 0; u < USERS; u++) {
+        set held = engine.holds[u];
+        if (!(held & ~roles))
+            continue;               /* no role that is not found already */
+        unsigned readable = 0;
+        for (unsigned i = 0; i < flows; i++)
+            if (meet(held, readers[i]) && ++readable == 2) {
+                roles |= held;
+                break;
+            }
+    }
+    return roles;
+}
+
+/* "Role o overlaps role r if some user holds both; r overlaps itself if
+ * anybody holds it. Then r is a parent of o."  The parents of the roles in
+ * the deny set: a denied role that nobody holds adds none, not even itself. */
+static set parents_of(set deny)
+{
+    set roles = 0;
+    for (unsigned u = 0; u < USERS; u++)
+        if (meet(engine.holds[u], deny))
+            roles |= engine.holds[u];
+    return roles;
+}
+
+/* The readers of each flow of the session, the flow of that root last. */
+static void readers_with(unsigned s, set root_reach, set readers[FLOWS])
+{
+    unsigned n = engine.count[s];
+    for (unsigned i = 0; i < n; i++)
+        readers[i] = readers_of(engine.flow[s][i].reach);
+    readers[n] = readers_of(root_reach);
+}
+
+/* 07: "conflicting roles, with a flow of root dd counted in but not added" */
+static unsigned ask_conflicting(unsigned s, unsigned root, set *answer)
+{
+    if (s >= SESSIONS || root >= DATABASES) return 2;
+    if (!engine.open[s])                    return 6;
+    if (engine.count[s] == FLOWS)           return 7;
+    set readers[FLOWS];
+    readers_with(s, reach_of(root), readers);
+    *answer = conflicting(readers, engine.count[s] + 1);
+    return 0;
+}
+
+/* 08: "Adding a flow brings a root and a chosen set of roles, each conflicting
+ * for the session with the new flow counted in." */
+static unsigned add_flow(unsigned s, unsigned root, set chosen, const struct flow **added)
+{
+    if (s >= SESSIONS || root >= DATABASES) return 2;
+    if (!engine.open[s])                    return 6;
+    if (engine.count[s] == FLOWS)           return 7;
+    unsigned n = engine.count[s];
+    set reach = reach_of(root);
+    set readers[FLOWS];
+    readers_with(s, reach, readers);
+    if (chosen & ~conflicting(readers, n + 1)) return 8;
+
+    /* "The flow's deny set is the previous flow's deny set (empty for flow 0)
+     * joined with the chosen set.  Its constraint [...] is its version (the
+     * system version then), its deny set, and one role set for each flow up to
+     * itself: the roles that may, at this addition, read a database in that
+     * flow's reach and are a parent of some role in the deny set." */
+    struct flow *f = &engine.flow[s][n];
+    f->reach = reach;
+    f->deny = (n ? engine.flow[s][n - 1].deny : 0) | chosen;
+    f->version = engine.system;
+    set parents = parents_of(f->deny);
+    for (unsigned i = 0; i <= n; i++)
+        f->roles[i] = readers[i] & parents;
+    engine.count[s] = n + 1;
+    engine.flow_added = true;
+    *added = f;
+    return 0;
+}
+
+/* 0a */
+static unsigned show_constraint(unsigned s, unsigned f, const struct flow **shown)
+{
+    if (s >= SESSIONS || f >= FLOWS)        return 2;
+    if (!engine.open[s])                    return 6;
+    if (f >= engine.count[s])               return 10;
+    *shown = &engine.flow[s][f];
+    return 0;
+}
+
+/* ---------------------------------------------------- the verdict on a read --- */
+
+/* 09: bit n of rows is set when the read meets row n; the lowest one is the
+ * answer.  Whether the "roles meet at least two of f's role sets" is counted
+ * over all eight places; those past the flow's own number are empty. */
+enum { GRANTED = 15 };
+
+static inline unsigned read_flow(unsigned user, unsigned s, unsigned f, unsigned db)
+{
+    const struct flow *flow = &engine.flow[s % SESSIONS][f % FLOWS];
+    set held = engine.holds[user];
+    const set *r = flow->roles;
+    int met = meet(held, r[0]) + meet(held, r[1]) + meet(held, r[2]) + meet(held, r[3])
+            + meet(held, r[4]) + meet(held, r[5]) + meet(held, r[6]) + meet(held, r[7]);
+
+    bool above     = (s >= SESSIONS) | (f >= FLOWS) | (db >= DATABASES);
+    bool closed    = !engine.open[s % SESSIONS];
+    bool no_flow   = f >= engine.count[s % SESSIONS];
+    bool unreached = !has(flow->reach, db % DATABASES);
+    bool unread    = !meet(held, engine.readers[db % DATABASES]);
+    bool changed   = engine.version[user] > flow->version;
+    bool linkable  = meet(held, flow->deny) & (met >= 2);
+
+    unsigned rows = (unsigned)above << 2     | (unsigned)closed << 6
+                  | (unsigned)no_flow << 10  | (unsigned)unreached << 11
+                  | (unsigned)unread << 12   | (unsigned)changed << 13
+                  | (unsigned)linkable << 14 | 1u << GRANTED;
+    return (unsigned)__builtin_ctz(rows);
+}
+
+/* --------------------------------------------------------------- answers --- */
+
+enum {
+    CHUNK = 65536,          /* bytes asked for at a time */
+    LONGEST_ANSWER = 256    /* more than 2 + 4 + 9 * 16 digits and a line feed */
+};
+
+static unsigned char out[CHUNK + LONGEST_ANSWER];
+static unsigned char *put = out;
+
+/* The answer to a read by what read_flow returns; four bytes, three are used. */
+static const char verdict[GRANTED + 1][4] = {
+    "", "01\n", "02\n", "03\n", "04\n", "05\n", "06\n", "07\n", "08\n",
+    "09\n", "0a\n", "0b\n", "0c\n", "0d\n", "0e\n", "00\n"
+};
+
+static void write_out(void)
+{
+    const unsigned char *p = out;
+    while (p < put) {
+        ssize_t n = write(1, p, (size_t)(put - p));
+        if (n < 0 && errno == EINTR)
+            continue;
+        if (n <= 0)
+            _exit(1);
+        p += n;
+    }
+    put = out;
+}
+
+static inline void put_verdict(unsigned n)
+{
+    if (put >= out + CHUNK)
+        write_out();
+    memcpy(put, verdict[n], 4);
+    put += 3;
+}
+
+static inline void put_number(set value, unsigned digits)
+{
+    for (unsigned i = digits; i-- > 0; value >>= 4)
+        put[i] = (unsigned char)"0123456789abcdef"[value & 15];
+    put += digits;
+}
+
+/* The two digits that begin every answer; the caller ends the line. */
+static inline void begin(unsigned number)
+{
+    if (put >= out + CHUNK)
+        write_out();
+    put_number(number, 2);
+}
+
+static inline void end_line(void)
+{
+    *put++ = '\n';
+}
+
+/* ---------------------------------------------------------------- frames --- */
+
+/* pair[] over two bytes as they lie in the line: 256 + the value for two
+ * digits 0-9 a-f, 0 for all else. */
+enum { DIGITS = 256 };
+static uint16_t pair[65536];
+
+static inline unsigned take(const unsigned char *p)
+{
+    uint16_t two;
+    memcpy(&two, p, 2);
+    return pair[two];
+}
+
+static void fill_pairs(void)
+{
+    static const char digit[] = "0123456789abcdef";
+    for (unsigned v = 0; v < 256; v++) {
+        unsigned char p[2] = { (unsigned char)digit[v >> 4], (unsigned char)digit[v & 15] };
+        uint16_t two;
+        memcpy(&two, p, 2);
+        pair[two] = (uint16_t)(DIGITS + v);
+    }
+}
+
+/* Digits in a line of each kind, the kind's own two among them. */
+enum { KINDS = 10, LONGEST = 22 };
+static const unsigned char length[KINDS + 1] = { 0, 6, 6, 6, 6, 6, 4, 6, 22, 10, 6 };
+
+/* 01 to 06: "the system version, four digits" */
+static void answer_change(unsigned number)
+{
+    begin(number);
+    if (number == 0)
+        put_number(engine.system, 4);
+    end_line();
+}
+
+/* 07: "the role set" */
+static void answer_query(unsigned s, unsigned root)
+{
+    set roles;
+    unsigned number = ask_conflicting(s, root, &roles);
+    begin(number);
+    if (number == 0)
+        put_number(roles, 16);
+    end_line();
+}
+
+/* 08: "flow number, count of databases in the reach (1 to 64) in two digits
+ * each, version" */
+static void answer_add(unsigned s, unsigned root, set chosen)
+{
+    const struct flow *f;
+    unsigned number = add_flow(s, root, chosen, &f);
+    begin(number);
+    if (number == 0) {
+        put_number((set)(f - engine.flow[s]), 2);
+        put_number((set)__builtin_popcountll(f->reach), 2);
+        put_number(f->version, 4);
+    }
+    end_line();
+}
+
+/* 0a: "version, deny set, then the role sets from flow 0 on" */
+static void answer_show(unsigned s, unsigned f)
+{
+    const struct flow *shown;
+    unsigned number = show_constraint(s, f, &shown);
+    begin(number);
+    if (number == 0) {
+        put_number(shown->version, 4);
+        put_number(shown->deny, 16);
+        for (unsigned i = 0; i <= f; i++)
+            put_number(shown->roles[i], 16);
+    }
+    end_line();
+}
+
+/* A line of the right length for its kind; x[] are its fields. */
+static void call(unsigned kind, const unsigned char *x)
+{
+    switch (kind) {
+    case 1: answer_change(assign_role(x[0], x[1]));         break;
+    case 2: answer_change(withdraw_role(x[0], x[1]));       break;
+    case 3: answer_change(permit_database(x[0], x[1]));     break;
+    case 4: answer_change(revoke_database(x[0], x[1]));     break;
+    case 5: answer_change(add_forwarding(x[0], x[1]));      break;
+    case 6: answer_change(open_session(x[0]));              break;
+    case 7: answer_query(x[0], x[1]);                       break;
+    case 8: {
+        set chosen = 0;
+        for (unsigned i = 2; i < 10; i++)
+            chosen = chosen << 8 | x[i];
+        answer_add(x[0], x[1], chosen);
+        break;
+    }
+    case 9: put_verdict(read_flow(x[0], x[1], x[2], x[3])); break;
+    case 10: answer_show(x[0], x[1]);                      break;
+    }
+}
+
+/* Answers the frame at p and returns the byte after its line feed; 0 if there
+ * is no frame at p: then the line is malformed or not whole. */
+static const unsigned char *frame(const unsigned char *p, const unsigned char *stop)
+{
+    unsigned char field[LONGEST / 2];
+    if (stop - p < 2)
+        return 0;
+    unsigned kind = take(p);
+    if (kind < DIGITS + 1 || kind > DIGITS + KINDS)
+        return 0;
+    kind -= DIGITS;
+    unsigned n = length[kind];
+    if (stop - p <= (ptrdiff_t)n || p[n] != '\n')
+        return 0;
+    unsigned valid = DIGITS;
+    for (unsigned i = 2; i < n; i += 2) {
+        unsigned v = take(p + i);
+        valid &= v;
+        field[i / 2 - 1] = (unsigned char)v;
+    }
+    if (!valid)
+        return 0;
+    call(kind, field);
+    return p + n + 1;
+}
+
+/* Answers all whole lines from p on; returns the start of the last line, which
+ * has no line feed yet. */
+static const unsigned char *lines(const unsigned char *p, const unsigned char *stop)
+{
+    while (p < stop) {
+        /* The reads first: eleven bytes, 09 uu ss ff dd and the line feed. */
+        if (stop - p > 10 && p[10] == '\n' && take(p) == DIGITS + 9) {
+            unsigned u = take(p + 2), s = take(p + 4), f = take(p + 6), d = take(p + 8);
+            if (u & s & f & d & DIGITS) {
+                put_verdict(read_flow(u - DIGITS, s - DIGITS, f - DIGITS, d - DIGITS));
+                p += 11;
+                continue;
+            }
+        }
+        const unsigned char *next = frame(p, stop);
+        if (!next) {
+            /* "unknown kind, wrong length, another byte than 0-9 a-f" */
+            next = memchr(p, '\n', (size_t)(stop - p));
+            if (!next)
+                break;
+            next++;
+            put_verdict(1);
+        }
+        p = next;
+    }
+    return p;
+}
+
+int main(void)
+{
+    /* The piece of a line that a chunk ends with is put before the next chunk.
+     * A piece longer than any frame is dropped: its line is malformed. */
+    static unsigned char room[LONGEST + CHUNK];
+    unsigned char *const chunk = room + LONGEST;
+    size_t piece = 0;
+    bool overlong = false;
+
+    fill_pairs();
+    for (;;) {
+        ssize_t n = read(0, chunk, CHUNK);
+        if (n < 0 && errno == EINTR)
+            continue;
+        if (n < 0)
+            return 1;
+        if (n == 0)
+            break;
+        const unsigned char *p = chunk - piece, *stop = chunk + n;
+        if (overlong) {
+            p = memchr(chunk, '\n', (size_t)n);
+            if (!p)
+                continue;
+            p++;
+            put_verdict(1);
+            overlong = false;
+        }
+        p = lines(p, stop);
+        piece = (size_t)(stop - p);
+        if (piece > LONGEST) {
+            overlong = true;
+            piece = 0;
+        } else {
+            memmove(chunk - piece, p, piece);
+        }
+        write_out();
+    }
+    if (piece || overlong)
+        put_verdict(1);     /* "no line feed at the end of input" */
+    write_out();
+    return 0;
+}
