@@ -6,22 +6,22 @@ use mathlib.Core.Bool.{Bool, true, false, cond, _&&_, true≢false}
 use mathlib.Core.List.{List, [], _∷_, _++_, append-nil, append-assoc}
 use native.Mathlib.Numerals.{add-one}
 use native.Mathlib.Omega.{arith}
-use lib.Dec.{leb}
+use lib.Dec.{eqb, leb}
 use lib.ListN.{length, set, take, drop, length-append, length-take, length-drop, take-append-drop}
 use lib.Seq.{take-at, drop-at, drop-drop}
-use borrow.Author.Tests.{le-leb, lt-leb}
+use borrow.Author.Tests.{le-leb, lt-leb, le-ltb, eqb-true, eqb-false}
 use Rattle.engine.specs.declared.Engine.{Engine}
 use Rattle.engine.specs.State.{fresh}
-use Rattle.engine.specs.Calls.{numberOf, verdict, answerOf, answer}
+use Rattle.engine.specs.Calls.{numberOf, verdict, answerOf, answer, after}
 use Rattle.frames.specs.declared.write.Line.{Line}
 use Rattle.frames.specs.declared.write.Line.the-variants.{Written, NoRoom}
 use Rattle.frames.specs.Digits.{glyph, hex}
-use Rattle.frames.specs.Lines.{values, returnedBy, lineOf, lineFeed}
-use Rattle.frames.specs.Run.{lastCall, reply, replies, run, Fed, wrote, feed, finish}
+use Rattle.frames.specs.Lines.{callOf, values, returnedBy, lineOf, lineFeed}
+use Rattle.frames.specs.Run.{lastCall, reply, replies, run, push, longest, Fed, wrote, feed, finish}
 use Rattle.frames.specs.Written.{Wrote}
 use Rattle.frames.specs.Stream.{engineIn, lineIn, Feeds, ending, fits, endAnswer, endWritten, takesWhole, Ran}
 use Rattle.frames.specs.declared.stream.Fed.{Fed as Given}
-use Rattle.frames.specs.Laws.{NoFeed, none, more, run-more, more-end, fed-by, fed-run, fed-no-feed, fed-fits}
+use Rattle.frames.specs.Laws.{NoFeed, none, no-feed-push, more, run-more, more-end, more-feed, more-byte, feed-none, feed-feed, feed-byte, fed-by, fed-run, fed-no-feed, fed-fits}
 use Rattle.frames.proofs.Writing.{wrote-stores}
 
 abbrev Ended : List ℕ → List ℕ → ℕ → List ℕ → Line → Type 0
@@ -139,3 +139,34 @@ ran-end input old new out f r n g h a o =
 
     whole : run input ≡ x .written ++ last
     whole = run-fed (length old) input none-left ∙ ap (λ (bytes : List ℕ). x .written ++ bytes) (rw (sym (g .engine), sym (g .line)) (finish-ending (engineIn (f .stream)) (f .stream .len) (f .stream .line) n))
+
+-- ---- how much room is enough
+
+all-taken : (room : ℕ) (e : Engine) (line bytes : List ℕ) → NoFeed line → length (more e line bytes) + longest ≤ room → feed room e line bytes .left ≡ []
+unfolding wrote
+all-taken room e line [] h l = rw (feed-none room e line)
+all-taken room e line (b ∷ bytes) h l =
+    go (eqb b lineFeed) refl
+    (λ m. all-taken (room - length (reply e (callOf line))) (after e (callOf line)) [] bytes none m)
+    (λ n m. all-taken room e (push line b) bytes (no-feed-push h n) m)
+  where
+    answered : List ℕ
+    answered = reply e (callOf line)
+
+    go : (t : Bool) → eqb b lineFeed ≡ t
+        → (length (more (after e (callOf line)) [] bytes) + longest ≤ room - length answered → feed (room - length answered) (after e (callOf line)) [] bytes .left ≡ [])
+        → ((b ≡ lineFeed → ⊥) → length (more e (push line b) bytes) + longest ≤ room → feed room e (push line b) bytes .left ≡ [])
+        → feed room e line (b ∷ bytes) .left ≡ []
+    go true t next later =
+        let at : b ≡ lineFeed = eqb-true b lineFeed t in
+        let long : length (more e line (lineFeed ∷ bytes)) ≡ length answered + length (more (after e (callOf line)) [] bytes) = ap length (more-feed e line bytes h) ∙ length-append answered _ in
+        let m : length (more e line (lineFeed ∷ bytes)) + longest ≤ room = rw (sym at) l in
+        rw (at, feed-feed room e line bytes, le-ltb room longest (omega arith)) (next (omega arith))
+    go false t next later =
+        let n = eqb-false b lineFeed t in
+        rw (feed-byte room e line b bytes n) (later n (rw (sym (more-byte e line b bytes h n)) l))
+
+-- a run fits where there is room for the longest answer behind it
+pub roomy : (input : List ℕ) (room : ℕ) → length (run input) + longest ≤ room → takesWhole input room ≡ true
+unfolding takesWhole
+roomy input room l = rw (all-taken room fresh [] input none (rw (sym (run-more input)) l), le-leb (length (run input)) room (omega arith))
