@@ -2,7 +2,7 @@
 -- Assumes nothing.
 use Prim.Native.Nat.{ℕ, zero, suc, _+_, _-_, _≤_, _<_, min}
 use mathlib.Core.Path.{_≡_, refl, sym, ap, _∙_}
-use mathlib.Core.Bool.{Bool, true, false, cond, _&&_, true≢false}
+use mathlib.Core.Bool.{Bool, true, false, cond, _&&_}
 use mathlib.Core.List.{List, [], _∷_, _++_, append-nil, append-assoc}
 use native.Mathlib.Numerals.{add-one}
 use native.Mathlib.Omega.{arith}
@@ -15,13 +15,13 @@ use Rattle.engine.specs.State.{fresh}
 use Rattle.engine.specs.Calls.{numberOf, verdict, answerOf, answer, after}
 use Rattle.frames.specs.declared.write.Line.{Line}
 use Rattle.frames.specs.declared.write.Line.the-variants.{Written, NoRoom}
-use Rattle.frames.specs.Digits.{glyph, hex}
-use Rattle.frames.specs.Lines.{callOf, values, returnedBy, lineOf, lineFeed}
-use Rattle.frames.specs.Run.{lastCall, reply, replies, run, push, longest, Fed, wrote, feed, finish}
+use Rattle.protocol.specs.Digits.{glyph, hex}
+use Rattle.protocol.specs.Lines.{callOf, values, returnedBy, lineOf, lineFeed}
+use Rattle.protocol.specs.Run.{lastCall, reply, replies, run, push, longest, Fed, wrote, feed, finish}
 use Rattle.frames.specs.Written.{Wrote}
-use Rattle.frames.specs.Stream.{engineIn, lineIn, Feeds, ending, fits, endAnswer, endWritten, takesWhole, Ran}
+use Rattle.frames.specs.Stream.{engineIn, lineIn, Feeds, ending, fits, endAnswer, endWritten, takesWhole, ranOutput, Ran}
 use Rattle.frames.specs.declared.stream.Fed.{Fed as Given}
-use Rattle.frames.specs.Laws.{NoFeed, none, no-feed-push, more, run-more, more-end, more-feed, more-byte, feed-none, feed-feed, feed-byte, fed-by, fed-run, fed-no-feed, fed-fits}
+use Rattle.protocol.proofs.Laws.{NoFeed, none, no-feed-push, more, run-more, more-end, more-feed, more-byte, feed-none, feed-feed, feed-byte, fed-by, fed-run, fed-no-feed, fed-fits}
 use Rattle.frames.proofs.Writing.{wrote-stores}
 
 abbrev Ended : List ℕ → List ℕ → ℕ → List ℕ → Line → Type 0
@@ -104,10 +104,22 @@ fed-place input old new f g =
     let l = fed-fits (length old) fresh [] input none in
     omega (arith, g .written, whole-put (feed (length old) fresh [] input .written) [] old new l (g .output) .0)
 
+-- the run begins with what stands in the buffer
+begins-with : (input : List ℕ) (room : ℕ) → (rest : List ℕ) × (run input ≡ ranOutput input room ++ rest)
+unfolding ranOutput
+begins-with input room = go (takesWhole input room)
+  where
+    x : Fed
+    x = feed room fresh [] input
+
+    go : (t : Bool) → (rest : List ℕ) × (run input ≡ cond t (run input) (x .written) ++ rest)
+    go true = ([], sym (append-nil (run input)))
+    go false = (more (x .engine) (x .line) (x .left), run-more input ∙ fed-run room fresh [] input none)
+
 -- not all of it was taken
 pub ran-short : (input old new : List ℕ) (f : Given) → Feeds input old new (feed (length old) fresh [] input) f → f .consumed < length input → Ran input old new NoRoom
-unfolding takesWhole
-ran-short input old new f g h = record { answer = rw some; output = λ t. absurd (true≢false (sym t ∙ rw some)) }
+unfolding takesWhole ranOutput
+ran-short input old new f g h = record { answer = rw some; output = rw some (g .output); begins = begins-with input (length old) }
   where
     some : leb (length (feed (length old) fresh [] input .left)) 0 ≡ false
     some = lt-leb (length (feed (length old) fresh [] input .left)) 0 (omega (arith, g .consumed))
@@ -115,11 +127,12 @@ ran-short input old new f g h = record { answer = rw some; output = λ t. absurd
 -- all of it was
 pub ran-end : (input old new out : List ℕ) (f : Given) (r : Line) → length (f .stream .line) ≡ 23 → Feeds input old new (feed (length old) fresh [] input) f → length input ≤ f .consumed
     → r ≡ endAnswer new (f .written) (ending (f .stream .len)) → out ≡ endWritten new (f .written) (ending (f .stream .len)) → Ran input old out r
-unfolding takesWhole endAnswer endWritten engineIn lineIn
+unfolding takesWhole ranOutput endAnswer endWritten engineIn lineIn
 ran-end input old new out f r n g h a o =
     record {
       answer = a ∙ rw (g .written, put .0, none-left, whole, length-append (x .written) last);
-      output = λ t. o ∙ rw (g .written, put .0, whole, length-append (x .written) last, rw (none-left, whole, length-append (x .written) last) at t) (put .1);
+      output = o ∙ rw (g .written, put .0, none-left, whole, length-append (x .written) last) (by (leb (length (x .written) + length last) (length old)));
+      begins = begins-with input (length old);
     }
   where
     x : Fed
@@ -139,6 +152,13 @@ ran-end input old new out f r n g h a o =
 
     whole : run input ≡ x .written ++ last
     whole = run-fed (length old) input none-left ∙ ap (λ (bytes : List ℕ). x .written ++ bytes) (rw (sym (g .engine), sym (g .line)) (finish-ending (engineIn (f .stream)) (f .stream .len) (f .stream .line) n))
+
+    -- the end fits, or the buffer stays as it was
+    by : (t : Bool)
+        → cond t (take (length (x .written)) new ++ (last ++ drop (length (x .written) + length last) new)) new
+        ≡ cond t (x .written ++ last) (x .written) ++ drop (length (cond t (x .written ++ last) (x .written))) old
+    by true = put .1 ∙ rw (length-append (x .written) last)
+    by false = g .output
 
 -- ---- how much room is enough
 

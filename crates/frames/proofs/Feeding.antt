@@ -12,13 +12,13 @@ use lib.Seq.{take-all, drop-length}
 use Rattle.engine.specs.declared.Engine.{Engine}
 use Rattle.engine.specs.declared.calls.Call.{Call}
 use Rattle.engine.specs.Calls.{after}
-use Rattle.frames.specs.Lines.{callOf, lineOf, lineFeed}
-use Rattle.frames.specs.Run.{Fed, wrote, feed, reply, kept, longest}
+use Rattle.protocol.specs.Lines.{callOf, lineOf, lineFeed}
+use Rattle.protocol.specs.Run.{Fed, wrote, feed, feedAt, reply, kept, longest}
 use Rattle.frames.specs.Written.{Wrote}
 use Rattle.frames.specs.declared.stream.Fed.{Fed as Given}
-use Rattle.frames.specs.Stream.{engineIn, lineIn, feedAt, Feeds}
+use Rattle.frames.specs.Stream.{engineIn, lineIn, Feeds}
 use Rattle.frames.proofs.Writing.{wrote-nothing, wrote-length, wrote-both}
-use Rattle.frames.specs.Laws.{one-line, no-room, no-more, feedAt-le, wrote-none, wrote-wrote, reply-length}
+use Rattle.protocol.proofs.Laws.{one-line, no-room, no-more, feedAt-le, wrote-none, wrote-wrote, reply-length}
 
 -- the same bytes
 pub wrote-same : {old new : List ℕ} {at next : ℕ} {a b : List ℕ} → a ≡ b → Wrote old new at next a → Wrote old new at next b

@@ -4,4 +4,3 @@ pub mod Streams
 pub mod Feeding
 pub mod Endings
 pub mod Stepping
-pub mod Demands

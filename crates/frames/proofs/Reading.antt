@@ -2,7 +2,7 @@
 -- Assumes nothing.
 use Prim.Native.Nat.{ℕ, zero, suc, _+_, _-_, _*_, _^_, _≤_, _<_}
 use mathlib.Core.Path.{_≡_, refl, ap, sym, _∙_}
-use mathlib.Core.Bool.{Bool, true, false, cond, _&&_, and-false, and-assoc, and-eq-true-iff}
+use mathlib.Core.Bool.{Bool, true, false, cond, _&&_, and-false, and-eq-true-iff}
 use mathlib.Core.List.{List, [], _∷_, _++_}
 use native.Mathlib.Nat.{add-zero, add-suc, suc-add, zero-add, le-of-suc-le-suc, not-suc-le-zero}
 use native.Mathlib.Numerals.{add-one}
@@ -20,9 +20,10 @@ use Rattle.frames.specs.declared.read.Chosen.{Chosen}
 use Rattle.frames.specs.declared.read.Chosen.the-variants.{Of as Chosen·Of, Bad as Chosen·Bad}
 use Rattle.frames.specs.declared.read.Addition.{Addition}
 use Rattle.frames.specs.declared.read.Addition.the-variants.{Of as Addition·Of, Bad as Addition·Bad}
-use Rattle.frames.specs.Digits.{digit, allDigits, numberFrom, number}
+use Rattle.protocol.specs.Digits.{digit, allDigits, numberFrom, number}
+use Rattle.protocol.proofs.Spelling.{all-parts, all-more, number-more}
 use Rattle.frames.specs.Fields.{Values, Two, digitsOnly}
-use Rattle.frames.specs.Lines.{field, frame, callOf}
+use Rattle.protocol.specs.Lines.{field, frame, callOf}
 
 -- ---- a table of the digits' values
 
@@ -82,12 +83,6 @@ module _ (a b h l : ℕ) (bs : List ℕ) (list : bs ≡ a ∷ b ∷ []) (high : 
 
 -- ---- all digits, part by part
 
-all-parts : (n : ℕ) (s : List ℕ) → allDigits s ≡ (allDigits (take n s) && allDigits (drop n s))
-unfolding allDigits
-all-parts zero s = refl
-all-parts (suc n) [] = refl
-all-parts (suc n) (b ∷ s) = rw (all-parts n s) (sym (and-assoc (ltb (digit b) 16) (allDigits (take n s)) (allDigits (drop n s))))
-
 -- a rest that has a byte that is no digit
 rest-wrong : (k : ℕ) (s : List ℕ) → allDigits (drop k s) ≡ false → allDigits s ≡ false
 rest-wrong k s e = rw (all-parts k s, e) (and-false (allDigits (take k s)))
@@ -121,18 +116,6 @@ pub record SoFar (s : List ℕ) (i set : ℕ) : Type 0 where
   pub digits : allDigits (take i s) ≡ true
   pub made : set ≡ number (take i s)
   pub bound : set < 2 ^ (4 * i)
-
-all-more : (xs : List ℕ) (b : ℕ) → allDigits xs ≡ true → digit b < 16 → allDigits (xs ++ (b ∷ [])) ≡ true
-unfolding allDigits
-all-more [] b e h = rw (lt-ltb (digit b) 16 h)
-all-more (x ∷ xs) b e h =
-    let p = and-eq-true-iff (ltb (digit x) 16) (allDigits xs) .0 e in
-    rw (p .0) (all-more xs b (p .1) h)
-
-number-more : (done : ℕ) (xs : List ℕ) (b : ℕ) → numberFrom done (xs ++ (b ∷ [])) ≡ numberFrom done xs * 16 + digit b
-unfolding numberFrom
-number-more done [] b = refl
-number-more done (x ∷ xs) b = number-more (done * 16 + digit x) xs b
 
 pub sofar-start : (s : List ℕ) → SoFar s 0 0
 unfolding allDigits number numberFrom

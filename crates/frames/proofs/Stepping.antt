@@ -27,8 +27,8 @@ use Rattle.engine.specs.Calls.{verdict, after, accepted, answerOf, answer}
 use Rattle.engine.specs.Steps.{placeIn, placeOf, decided, repliedWith, partOf, openedWith, versionsWith}
 use Rattle.engine.proofs.Checks.{Present, present}
 use Rattle.engine.proofs.Steps.{decided-verdict, parts, parts-after, directory-same, sessions-same, replied, by-verdict}
-use Rattle.frames.specs.Lines.{values, lineOf}
-use Rattle.frames.specs.Run.{constraintOf, reply}
+use Rattle.protocol.specs.Lines.{values, lineOf}
+use Rattle.protocol.specs.Run.{constraintOf, reply}
 use Rattle.engine.proofs.Additions.{storedOf, withStored, withOpened, opened-after, flow-after}
 
 -- an engine of two halves

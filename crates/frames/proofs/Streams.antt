@@ -10,9 +10,9 @@ use native.Mathlib.Decide.{decLt}
 use native.Mathlib.Omega.{arith}
 use lib.ListN.{length, getD, take, drop, set, length-set, drop-of-length-le}
 use lib.Seq.{paste, paste-zero, paste-suc, take-paste, take-all, take-append-add, length-take-le, drop-cons}
-use Rattle.frames.specs.Lines.{lineFeed}
-use Rattle.frames.specs.Stream.{feedAt}
-use Rattle.frames.specs.Laws.{feedAt-here, feedAt-later}
+use Rattle.protocol.specs.Lines.{lineFeed}
+use Rattle.protocol.specs.Run.{feedAt}
+use Rattle.protocol.proofs.Laws.{feedAt-here, feedAt-later}
 
 -- ---- looking for a line feed
 

@@ -26,10 +26,10 @@ use Rattle.engine.specs.State.{sessionCount, flowCount}
 use Rattle.engine.specs.Rows.{refuse, flowRows}
 use Rattle.engine.specs.Calls.{verdict, accepted, answerOf, answer}
 use Rattle.engine.proofs.Checks.{passed}
-use Rattle.frames.specs.Digits.{glyph, hex}
+use Rattle.protocol.specs.Digits.{glyph, hex}
 use Rattle.frames.specs.declared.write.Line.the-variants.{Written, NoRoom}
-use Rattle.frames.specs.Lines.{lineFeed, roleSets, values, returnedBy, lineOf}
-use Rattle.frames.specs.Run.{longest}
+use Rattle.protocol.specs.Lines.{lineFeed, roleSets, values, returnedBy, lineOf}
+use Rattle.protocol.specs.Run.{longest}
 use Rattle.frames.specs.Written.{Wrote, setsIn, writable, lineAnswer, lineWritten}
 
 -- ---- writes

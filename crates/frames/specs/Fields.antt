@@ -6,7 +6,7 @@ use mathlib.Core.Bool.{Bool, true, false, _&&_}
 use mathlib.Core.List.{List}
 use lib.Dec.{eqb}
 use lib.ListN.{length, getD}
-use Rattle.frames.specs.Digits.{digit, allDigits, number}
+use Rattle.protocol.specs.Digits.{digit, allDigits, number}
 
 -- a table that has the value of each byte
 pub record Values (table : List ℕ) : Type 0 where

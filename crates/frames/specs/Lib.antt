@@ -1,9 +1,3 @@
-pub mod Digits
 pub mod Fields
-pub mod Lines
-pub mod Run
 pub mod Written
 pub mod Stream
-pub mod Worked
-pub mod Laws
-pub mod Demands

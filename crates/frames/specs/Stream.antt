@@ -11,11 +11,11 @@ use Rattle.engine.specs.declared.Sessions.{Sessions}
 use Rattle.engine.specs.declared.Engine.{Engine}
 use Rattle.frames.specs.declared.stream.Stream.{Stream}
 use Rattle.frames.specs.declared.stream.Fed.{Fed as Given}
-use Rattle.frames.specs.Lines.{lineFeed}
+use Rattle.protocol.specs.Lines.{lineFeed}
 use Rattle.engine.specs.State.{fresh}
 use Rattle.frames.specs.declared.write.Line.{Line}
 use Rattle.frames.specs.declared.write.Line.the-variants.{Written, NoRoom}
-use Rattle.frames.specs.Run.{run, Fed, feed}
+use Rattle.protocol.specs.Run.{run, Fed, feed}
 
 unfoldable pub engineIn : Stream → Engine
 engineIn s = record { directory = s .directory; sessions = s .sessions }
@@ -23,11 +23,6 @@ engineIn s = record { directory = s .directory; sessions = s .sessions }
 -- the line so far
 unfoldable pub lineIn : Stream → List ℕ
 lineIn s = take (s .len) (s .line)
-
--- how many bytes stand before the first line feed
-unfoldable pub feedAt : List ℕ → ℕ
-feedAt [] = 0
-feedAt (b ∷ bs) = cond (eqb b lineFeed) 0 (suc (feedAt bs))
 
 -- what a stream gives back of a piece of input is what the machine does: how much it has taken, what it has written at the start of the buffer, and the rest as it was
 pub record Feeds (chunk old new : List ℕ) (x : Fed) (r : Given) : Type 0 where
@@ -60,7 +55,12 @@ endWritten old at bytes = cond (fits old at bytes) (take at old ++ (bytes ++ dro
 unfoldable pub takesWhole : List ℕ → ℕ → Bool
 takesWhole input room = leb (length (feed room fresh [] input .left)) 0 && leb (length (run input)) room
 
--- the answer is how long the run's output is, which then stands at the start of the buffer, or that there is no room
+-- what then stands at the start of the buffer: the run's output, or, where there is no room, the answers before the one that had none
+unfoldable pub ranOutput : List ℕ → ℕ → List ℕ
+ranOutput input room = cond (takesWhole input room) (run input) (feed room fresh [] input .written)
+
+-- the answer is how long the run's output is, or that there is no room; the buffer has what was written, which the run begins with, and is else as it was
 pub record Ran (input old new : List ℕ) (r : Line) : Type 0 where
   pub answer : r ≡ cond (takesWhole input (length old)) (Written (length (run input))) NoRoom
-  pub output : takesWhole input (length old) ≡ true → new ≡ run input ++ drop (length (run input)) old
+  pub output : new ≡ ranOutput input (length old) ++ drop (length (ranOutput input (length old))) old
+  pub begins : (rest : List ℕ) × (run input ≡ ranOutput input (length old) ++ rest)

@@ -12,8 +12,8 @@ use Rattle.engine.specs.declared.calls.Answer.the-variants.{Version, Roles, Flo
 use Rattle.engine.specs.State.{flowCount}
 use Rattle.frames.specs.declared.write.Line.{Line}
 use Rattle.frames.specs.declared.write.Line.the-variants.{Written, NoRoom}
-use Rattle.frames.specs.Lines.{lineOf}
-use Rattle.frames.specs.Run.{longest}
+use Rattle.protocol.specs.Lines.{lineOf}
+use Rattle.protocol.specs.Run.{longest}
 
 -- the new list is the old one with these bytes from `at` on, for which there was room, and the next place is behind them
 pub record Wrote (old new : List ℕ) (at next : ℕ) (bytes : List ℕ) : Type 0 where

@@ -5,9 +5,9 @@ ghost use mathlib.Core.Path.{_≡_};
 ghost use mathlib.Core.Bool.{cond};
 ghost use Prim.Native.Nat.{_+_, _≤_};
 ghost use lib.ListN.{length, take, drop};
-ghost use Rattle.frames.specs.Digits.{allDigits, number};
+ghost use Rattle.protocol.specs.Digits.{allDigits, number};
 ghost use Rattle.frames.specs.Fields.{Values, Two, digitsOnly};
-ghost use Rattle.frames.specs.Lines.{callOf, field};
+ghost use Rattle.protocol.specs.Lines.{callOf, field};
 
 // The fields of a frame, or that they are not right: a byte is no digit, or the length is wrong.
 enum Field {

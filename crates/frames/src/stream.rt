@@ -17,9 +17,9 @@ ghost use Prim.Native.Nat.{_+_, _≤_, min};
 ghost use lib.ListN.{length, take, drop};
 ghost use Rattle.engine.specs.State.{fresh};
 ghost use Rattle.frames.specs.Fields.{Values};
-ghost use Rattle.frames.specs.Lines.{callOf};
-ghost use Rattle.frames.specs.Run.{feed, finish};
-ghost use Rattle.frames.specs.Stream.{engineIn, lineIn, feedAt, Feeds};
+ghost use Rattle.protocol.specs.Lines.{callOf};
+ghost use Rattle.protocol.specs.Run.{feed, finish, feedAt};
+ghost use Rattle.frames.specs.Stream.{engineIn, lineIn, Feeds};
 ghost use Rattle.frames.specs.Stream.{ending, endAnswer, endWritten};
 
 // How many bytes of a line are kept: no frame is longer than 22 digits.

@@ -4,8 +4,9 @@ use super::stream::Stream;
 use super::write::Line;
 ghost use Rattle.frames.specs.Stream.{Ran};
 
-// The run of the program on this input, at the start of `out`. There is room where 151 bytes more
-// are left than the run's output takes.
+// The run of the program on this input, at the start of `out`. There is room where `out` has 151
+// bytes more than the run's output takes. Where there is none, `out` begins with the answers up to
+// there.
 pub fn run(input: &[u8], out: &mut [u8]) -> Line
     ensures { λ r. ⌜ Ran (now (input .entry)) (now (out .entry)) (now (out .exit)) r ⌝ }
 {

@@ -8,9 +8,9 @@ ghost use Prim.Native.Nat.{_+_, _*_, _<_, _≤_};
 ghost use lib.ListN.{length};
 ghost use Rattle.engine.specs.State.{flowCount};
 ghost use Rattle.engine.specs.Calls.{numberOf};
-ghost use Rattle.frames.specs.Digits.{glyph, hex};
-ghost use Rattle.frames.specs.Lines.{roleSets, values, returnedBy, lineOf};
-ghost use Rattle.frames.specs.Run.{longest};
+ghost use Rattle.protocol.specs.Digits.{glyph, hex};
+ghost use Rattle.protocol.specs.Lines.{roleSets, values, returnedBy, lineOf};
+ghost use Rattle.protocol.specs.Run.{longest};
 ghost use Rattle.frames.specs.Written.{Wrote, setsIn, lineAnswer, lineWritten};
 
 // The longest answer line, a constraint of eight role sets.

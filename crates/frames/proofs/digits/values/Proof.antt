@@ -1,6 +1,6 @@
 -- The table's rule is one test that antt computes, byte by byte.
 use mathlib.Core.Path.{refl}
-use Rattle.frames.specs.Digits.{digit}
+use Rattle.protocol.specs.Digits.{digit}
 use Rattle.frames.proofs.Reading.{valuesFrom, table-right}
 use Rattle.frames.proofs.digits.values.Statement.{statement}
 use Rattle.frames.proofs.digits.values.Tie as tie

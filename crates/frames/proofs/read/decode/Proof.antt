@@ -6,7 +6,7 @@ use lib.ListN.{length, take, drop}
 use borrow.Author.Needs.{needs}
 use Rattle.engine.specs.declared.calls.Call.{Call}
 use Rattle.engine.specs.declared.calls.Call.the-variants.{Assign, Withdraw, Permit, Revoke, Forward, Open, Conflicting, Add, Read, Show, Unreadable}
-use Rattle.frames.specs.Lines.{frame}
+use Rattle.protocol.specs.Lines.{frame}
 use Rattle.frames.specs.declared.read.Field.{Field}
 use Rattle.frames.specs.declared.read.Field.the-variants.{Of as Field·Of, Bad as Field·Bad}
 use Rattle.frames.specs.declared.read.Pair.{Pair}

@@ -3,7 +3,7 @@ use Prim.Native.Nat.{_+_, _-_, _*_, _^_, _≤_, _<_}
 use mathlib.Core.Path.{_≡_}
 use native.Mathlib.Omega.{arith}
 use lib.ListN.{length, getD}
-use Rattle.frames.specs.Digits.{digit}
+use Rattle.protocol.specs.Digits.{digit}
 use Rattle.frames.proofs.Reading.{SoFar, sofar-start, sofar-step, sofar-fits, sofar-wrong, sofar-end}
 use Rattle.frames.proofs.read.sixteen.Statement.{statement}
 use Rattle.frames.proofs.read.sixteen.Tie as tie

@@ -4,8 +4,8 @@ use native.Mathlib.Omega.{arith}
 use lib.ListN.{length}
 use lib.Seq.{length-take-le}
 use borrow.Author.Needs.{needs}
-use Rattle.frames.specs.Lines.{callOf}
-use Rattle.frames.specs.Laws.{capped}
+use Rattle.protocol.specs.Lines.{callOf}
+use Rattle.protocol.proofs.Laws.{capped}
 use Rattle.frames.proofs.stream.call_of.Statement.{statement}
 use Rattle.frames.proofs.stream.call_of.Tie as tie
 

@@ -1,7 +1,7 @@
 -- The code goes by the definition's own test.
 use borrow.Author.Needs.{needs}
 use borrow.Author.Tests.{lt-ltb, le-ltb}
-use Rattle.frames.specs.Digits.{glyph}
+use Rattle.protocol.specs.Digits.{glyph}
 use Rattle.frames.proofs.write.glyph.Statement.{statement}
 use Rattle.frames.proofs.write.glyph.Tie as tie
 

@@ -1,6 +1,6 @@
 -- The cases are the definition's.
 use borrow.Author.Needs.{needs}
-use Rattle.frames.specs.Lines.{returnedBy}
+use Rattle.protocol.specs.Lines.{returnedBy}
 use Rattle.frames.proofs.write.returned.Statement.{statement}
 use Rattle.frames.proofs.write.returned.Tie as tie
 

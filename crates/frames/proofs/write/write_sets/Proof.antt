@@ -3,7 +3,7 @@ use Prim.Native.Nat.{_≤_, _-_}
 use mathlib.Core.Path.{_≡_}
 use native.Mathlib.Omega.{arith}
 use borrow.Author.Needs.{needs}
-use Rattle.frames.specs.Lines.{roleSets}
+use Rattle.protocol.specs.Lines.{roleSets}
 use Rattle.frames.specs.Written.{Wrote}
 use Rattle.frames.proofs.Writing.{wrote-nothing, wrote-length, wrote-set, length-roleSets}
 use Rattle.frames.proofs.write.write_sets.Statement.{statement}

@@ -1,7 +1,7 @@
 -- Each arm writes the fields of the definition's case, one after the other.
 use native.Mathlib.Omega.{arith}
 use borrow.Author.Needs.{needs}
-use Rattle.frames.specs.Lines.{values}
+use Rattle.protocol.specs.Lines.{values}
 use Rattle.frames.proofs.Writing.{wrote-nothing, wrote-both, length-hex}
 use Rattle.frames.proofs.write.write_values.Statement.{statement}
 use Rattle.frames.proofs.write.write_values.Tie as tie

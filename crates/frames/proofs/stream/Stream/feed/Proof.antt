@@ -12,8 +12,8 @@ use Rattle.engine.proofs.Steps.{parts}
 use Rattle.engine.specs.State.{noConstraint}
 use Rattle.engine.specs.Calls.{after}
 use Rattle.engine.specs.Steps.{placeOf, decided}
-use Rattle.frames.specs.Lines.{lineOf}
-use Rattle.frames.specs.Run.{reply, feed}
+use Rattle.protocol.specs.Lines.{lineOf}
+use Rattle.protocol.specs.Run.{reply, feed}
 use Rattle.frames.specs.Stream.{engineIn, lineIn}
 use Rattle.frames.proofs.Writing.{wrote-length, few-sets}
 use Rattle.frames.proofs.Feeding.{Feeding, feeding-start, feeding-step, feeding-feeds, end-within, at-end, written-fits, take-least, wrote-same}

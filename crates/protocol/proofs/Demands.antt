@@ -13,9 +13,9 @@ use Rattle.engine.specs.Calls.{after}
 use Rattle.engine.specs.Demands.{engineAfter, callAt, engineAt}
 use Rattle.engine.proofs.Seen.{demand1}
 use Rattle.engine.proofs.Demands.{demand3}
-use Rattle.frames.specs.Run.{callsOf, reply, replies, run, Fed, wrote, feed, finish}
-use Rattle.frames.specs.Laws.{NoFeed, none, more, run-more, more-end, fed-chunks, fed-no-feed}
-use Rattle.frames.specs.Demands.{ByteDemands, Chunk, allBytes, fedAll}
+use Rattle.protocol.specs.Run.{callsOf, reply, replies, run, Fed, wrote, feed, finish}
+use Rattle.protocol.proofs.Laws.{NoFeed, none, more, run-more, more-end, fed-chunks, fed-no-feed}
+use Rattle.protocol.specs.Demands.{ByteDemands, Chunk, allBytes, fedAll}
 
 -- one call's answer among those of a list
 answer-of : (e : Engine) (cs : List Call) (i : ℕ) → i < length cs

@@ -11,7 +11,7 @@ use Rattle.engine.specs.declared.calls.Call.the-variants.{Assign, Withdraw, Per
 use Rattle.engine.specs.declared.calls.Answer.{Answer}
 use Rattle.engine.specs.declared.calls.Answer.the-variants.{Version, Roles, Flow, Granted, Constraint as Answer·Constraint, Refused}
 use Rattle.engine.specs.Calls.{numberOf}
-use Rattle.frames.specs.Digits.{allDigits, number, hex}
+use Rattle.protocol.specs.Digits.{allDigits, number, hex}
 
 -- ---- reading
 

@@ -21,10 +21,9 @@ use Rattle.engine.specs.declared.calls.Answer.{Answer}
 use Rattle.engine.specs.State.{fresh}
 use Rattle.engine.specs.Rows.{flowRows}
 use Rattle.engine.specs.Calls.{verdict, accepted, answerOf, answer, after}
-use Rattle.frames.specs.Digits.{allDigits, number, hex}
-use Rattle.frames.specs.Lines.{frame, callOf, lineFeed, roleSets, values, lineOf}
-use Rattle.frames.specs.Stream.{feedAt}
-use Rattle.frames.specs.Run.{Split, withByte, split, lastCall, callsOf, constraintOf, reply, replies, run, kept, push, longest, Fed, wrote, feed, finish}
+use Rattle.protocol.specs.Digits.{allDigits, number, hex}
+use Rattle.protocol.specs.Lines.{frame, callOf, lineFeed, roleSets, values, lineOf}
+use Rattle.protocol.specs.Run.{Split, withByte, split, lastCall, callsOf, constraintOf, reply, replies, run, kept, push, longest, Fed, wrote, feed, finish, feedAt}
 
 -- ---- a line is read by its first 23 bytes
 
@@ -70,16 +69,6 @@ capped-front l m = sym (capped (take kept l ++ m)) ∙ ap callOf (take-first kep
 pub data NoFeed : List ℕ → Type 0 where
   none : NoFeed []
   byte : {b : ℕ} {bs : List ℕ} → (b ≡ lineFeed → ⊥) → NoFeed bs → NoFeed (b ∷ bs)
-
--- said of each byte
-pub no-feed-of : (line : List ℕ) → ((i : ℕ) → i < length line → getD line i 0 ≡ lineFeed → ⊥) → NoFeed line
-no-feed-of [] f = none
-no-feed-of (b ∷ bs) f = byte (f 0 (omega arith)) (no-feed-of bs (λ i l. f (suc i) (omega arith)))
-
-pub no-feed-at : {line : List ℕ} → NoFeed line → (i : ℕ) → i < length line → getD line i 0 ≡ lineFeed → ⊥
-no-feed-at none i l e = omega arith
-no-feed-at (byte n h) zero l e = n e
-no-feed-at (byte n h) (suc i) l e = no-feed-at h i (omega arith) e
 
 pub no-feed-append : {a b : List ℕ} → NoFeed a → NoFeed b → NoFeed (a ++ b)
 no-feed-append none k = k
@@ -259,10 +248,6 @@ fed-no-feed = fed-by (λ m d l p x. NoFeed (x .line)) (λ m d l p h. h) (λ m d 
 pub push-length : (line : List ℕ) (b : ℕ) → length (push line b) ≤ kept
 unfolding push
 push-length line b = simp length-take (omega arith)
-
-pub fed-length : (room : ℕ) (e : Engine) (line bytes : List ℕ) → NoFeed line → length line ≤ kept → length (feed room e line bytes .line) ≤ kept
-unfolding wrote
-fed-length = fed-by (λ m d l p x. length l ≤ kept → length (x .line) ≤ kept) (λ m d l p h k. k) (λ m d l p x k h r j. r (omega arith)) (λ m d l c p x h n r j. r (push-length l c))
 
 -- ---- a line, or the rest of a piece, at once
 

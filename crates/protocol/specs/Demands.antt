@@ -7,7 +7,13 @@ use lib.ListN.{length, take, drop}
 use Rattle.engine.specs.declared.Engine.{Engine}
 use Rattle.engine.specs.State.{fresh}
 use Rattle.engine.specs.Demands.{Demand1, Demand3, callAt, engineAt}
-use Rattle.frames.specs.Run.{callsOf, reply, replies, run, Fed, wrote, feed}
+use Rattle.protocol.specs.Specification.{Output}
+use Rattle.protocol.specs.Run.{callsOf, reply, replies, run, Fed, wrote, feed}
+
+-- for every input, the specification allows the program's output, and no other
+pub record Exact (input : List ℕ) : Type 0 where
+  pub allowed : Output input (run input)
+  pub only : (output : List ℕ) → Output input output → output ≡ run input
 
 -- each line of an input is the call that it reads as, and the demands hold of that list of calls
 pub record ByteDemands (input : List ℕ) : Type 0 where

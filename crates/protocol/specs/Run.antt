@@ -11,7 +11,7 @@ use Rattle.engine.specs.declared.calls.Call.{Call}
 use Rattle.engine.specs.declared.calls.Call.the-variants.{Assign, Withdraw, Permit, Revoke, Forward, Open, Conflicting, Add, Read, Show, Unreadable}
 use Rattle.engine.specs.State.{fresh, noConstraint, constraintAt}
 use Rattle.engine.specs.Calls.{after, answer}
-use Rattle.frames.specs.Lines.{callOf, lineOf, lineFeed}
+use Rattle.protocol.specs.Lines.{callOf, lineOf, lineFeed}
 
 -- ---- input as lines
 
@@ -111,3 +111,8 @@ feed room e line (b ∷ bs) =
 -- what is written at the end of input: a line that has begun lacks its line feed
 unfoldable pub finish : Engine → List ℕ → List ℕ
 finish e line = replies e (lastCall line)
+
+-- how many bytes stand before the first line feed
+unfoldable pub feedAt : List ℕ → ℕ
+feedAt [] = 0
+feedAt (b ∷ bs) = cond (eqb b lineFeed) 0 (suc (feedAt bs))

@@ -1,0 +1,5 @@
+pub mod Laws
+pub mod Spelling
+pub mod Exact
+pub mod Worked
+pub mod Demands

@@ -1,0 +1,6 @@
+pub mod Specification
+pub mod Digits
+pub mod Lines
+pub mod Run
+pub mod Demands
+pub mod Worked
