@@ -75,7 +75,7 @@ add-refused opened counts found s root chosen why l =
     (refused-too (leb 8 (getD counts s 0)) SessionFull Granted _ why (λ q. absurd (never why q))))))
 
 -- and else looks at the chosen roles
-pub add-clear : (opened : ℕ) (counts : List ℕ) (found s root chosen : ℕ) → chosen < 2 ^ 64 → Clear opened counts s root → addRows opened counts found s root chosen ≡ refuse (outside chosen found) NotConflicting Granted
+pub add-clear : (opened : ℕ) (counts : List ℕ) (found s root chosen : ℕ) → chosen < 2 ^ 64 → Clear opened counts s root → addRows opened counts found s root chosen ≡ refuse (outside 64 chosen found) NotConflicting Granted
 unfolding addRows
 add-clear opened counts found s root chosen l g =
     rw (lt-leb 16 s (g .session), lt-leb 64 root (g .database), lt-leb (2 ^ 64) chosen l, g .there, lt-leb 8 (getD counts s 0) (g .room))

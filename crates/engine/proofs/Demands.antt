@@ -1,6 +1,6 @@
 -- Demand 3, for every list of calls from a fresh engine.
 -- Assumes nothing.
-use Prim.Native.Nat.{ℕ, zero, suc, _≤_, _<_}
+use Prim.Native.Nat.{ℕ, suc, _<_}
 use mathlib.Core.Path.{_≡_, refl, sym, ap, _∙_}
 use mathlib.Core.Bool.{Bool, true, false, cond, not}
 use mathlib.Core.List.{List, [], _∷_, _++_}
@@ -12,18 +12,18 @@ use Rattle.engine.specs.declared.Engine.{Engine}
 use Rattle.engine.specs.declared.calls.Refusal.{Refusal}
 use Rattle.engine.specs.declared.calls.Refusal.the-variants.{Malformed, AboveLimit, AlreadyThere, NotThere, FlowAdded, NotOpen, SessionFull, NotConflicting, VersionsSpent, NoSuchFlow, OutOfReach, NoPermission, Changed, Linkable}
 use Rattle.engine.specs.declared.calls.Call.{Call}
-use Rattle.engine.specs.declared.calls.Call.the-variants.{Read, Unreadable}
+use Rattle.engine.specs.declared.calls.Call.the-variants.{Assign, Withdraw, Permit, Revoke, Forward, Open, Conflicting, Add, Read, Show, Unreadable}
 use Rattle.engine.specs.declared.calls.Verdict.{Verdict}
 use Rattle.engine.specs.declared.calls.Verdict.the-variants.{Granted, Refused}
 use Rattle.engine.specs.State.{fresh, constraintAt}
 use Rattle.engine.specs.Calls.{verdict, returned, numberOf, after}
 use Rattle.engine.specs.Ledger.{Ledger, start, flowOf, linked}
-use Rattle.engine.specs.Refusals.{table, firstMet, refusal, ledgerAfter}
-use Rattle.engine.specs.Demands.{Demand3, seen, flowSeen, storedLinkable, engineAfter, engineAt, ledgerAt, callAt}
+use Rattle.engine.specs.Refusals.{table, firstMet, refusal, taken, ledgerAfter}
+use Rattle.engine.specs.Demands.{Demand3, seen, flowSeen, storedLinkable, engineAfter, engineAt, ledgerAt, callAt, isRead}
 use Rattle.engine.proofs.Invariants.{Sized, Kept}
 use Rattle.engine.proofs.Links.{kept-fresh, kept-after, stored-linked}
-use Rattle.engine.proofs.Ledgers.{PassedBy, PassedEarlier, passed-iff, passed-read, read-passed-earlier, ledger-step, first-half}
-use Rattle.engine.proofs.SeenRows.{met-read, number, accepts-seen, length-flows, flow-seen}
+use Rattle.engine.proofs.Ledgers.{PassedBy, PassedEarlier, passed-iff, passed-read, read-passed-earlier, read-rows, first-half}
+use Rattle.engine.proofs.SeenRows.{met-read, number, other-rows, accepts-seen, length-flows, flow-seen}
 use Rattle.engine.proofs.Seen.{sized-fresh, sized-after, seen-fresh, seen-after}
 
 -- ---- the engine before each call of a list
@@ -33,30 +33,26 @@ unfolding engineAfter
 one-more e [] c = refl
 one-more e (b ∷ cs) c = one-more (after e b) cs c
 
-engine-step : (cs : List Call) (k : ℕ) → k < length cs → engineAt cs (suc k) ≡ after (engineAt cs k) (callAt cs k)
+pub engine-step : (cs : List Call) (k : ℕ) → k < length cs → engineAt cs (suc k) ≡ after (engineAt cs k) (callAt cs k)
 unfolding engineAt callAt
 engine-step cs k h = rw (take-suc cs k Unreadable) (one-more fresh (take k cs) (getD cs k Unreadable))
 
 -- it has the invariants, and the ledger of the calls before is what is seen of it
-record At (cs : List Call) (k : ℕ) : Type 0 where
-  sized : Sized (engineAt cs k)
-  kept : Kept (engineAt cs k)
-  same : seen (engineAt cs k) ≡ ledgerAt cs k
+pub record At (e : Engine) (l : Ledger) : Type 0 where
+  pub sized : Sized e
+  pub kept : Kept e
+  pub same : seen e ≡ l
 
-first-at : (cs : List Call) → At cs 0
-unfolding engineAt engineAfter ledgerAt ledgerAfter
-first-at cs = record { sized = sized-fresh; kept = kept-fresh; same = seen-fresh }
+later : (e : Engine) (l : Ledger) (cs : List Call) → At e l → At (engineAfter e cs) (ledgerAfter l cs)
+unfolding engineAfter ledgerAfter
+later e l [] h = h
+later e l (c ∷ cs) h =
+    later (after e c) (taken l c) cs
+    (record { sized = sized-after e c (h .sized); kept = kept-after e c (h .sized) (h .kept); same = seen-after e c (h .sized) ∙ ap (λ (m : Ledger). taken m c) (h .same) })
 
-at : (cs : List Call) (k : ℕ) → k ≤ length cs → At cs k
-at cs zero l = first-at cs
-at cs (suc k) l =
-    let h = at cs k (omega arith) in
-    let s = engine-step cs k l in
-    record {
-      sized = rw s (sized-after (engineAt cs k) (callAt cs k) (h .sized));
-      kept = rw s (kept-after (engineAt cs k) (callAt cs k) (h .sized) (h .kept));
-      same = rw (s, ledger-step cs k l, ← (h .same)) (seen-after (engineAt cs k) (callAt cs k) (h .sized));
-    }
+pub at : (cs : List Call) (k : ℕ) → At (engineAt cs k) (ledgerAt cs k)
+unfolding engineAt ledgerAt
+at cs k = later fresh start (take k cs) (record { sized = sized-fresh; kept = kept-fresh; same = seen-fresh })
 
 -- ---- row 14: where the earlier rows are passed, the stored constraint says what the ledger says
 
@@ -114,13 +110,28 @@ told Granted false h = refl
 told (Refused why) true h = ap Refused (fourteenth why h)
 told (Refused why) false h = absurd (never-none why h)
 
--- ---- the three parts
+-- the stored constraints make no difference to the first row met
+stored-row : (e : Engine) (c : Call) → Kept e → firstMet (table (seen e) (storedLinkable e)) c ≡ refusal (seen e) c
+unfolding refusal isRead
+stored-row e (Assign u r) k = other-rows (seen e) (storedLinkable e) (linked (seen e)) (Assign u r) refl
+stored-row e (Withdraw u r) k = other-rows (seen e) (storedLinkable e) (linked (seen e)) (Withdraw u r) refl
+stored-row e (Permit r d) k = other-rows (seen e) (storedLinkable e) (linked (seen e)) (Permit r d) refl
+stored-row e (Revoke r d) k = other-rows (seen e) (storedLinkable e) (linked (seen e)) (Revoke r d) refl
+stored-row e (Forward d x) k = other-rows (seen e) (storedLinkable e) (linked (seen e)) (Forward d x) refl
+stored-row e (Open s) k = other-rows (seen e) (storedLinkable e) (linked (seen e)) (Open s) refl
+stored-row e (Conflicting s root) k = other-rows (seen e) (storedLinkable e) (linked (seen e)) (Conflicting s root) refl
+stored-row e (Add s root chosen) k = other-rows (seen e) (storedLinkable e) (linked (seen e)) (Add s root chosen) refl
+stored-row e (Read u s f d) k = read-rows (storedLinkable e) (linked (seen e)) (seen e) u s f d (stored e u s f d (λ v t g. false) k)
+stored-row e (Show s f) k = other-rows (seen e) (storedLinkable e) (linked (seen e)) (Show s f) refl
+stored-row e Unreadable k = other-rows (seen e) (storedLinkable e) (linked (seen e)) Unreadable refl
+
+-- ---- the parts
 
 module _ (cs : List Call) where
   halves : (i u s f d : ℕ) → i < length cs → PassedEarlier (ledgerAt cs i) u s f d
       → verdict (engineAt cs i) (Read u s f d) ≡ cond (linked (ledgerAt cs i) u s f) (Refused Linkable) Granted
   halves i u s f d l g =
-      let h = at cs i (omega arith) in
+      let h = at cs i in
       let e = engineAt cs i in
       told (verdict e (Read u s f d)) (linked (ledgerAt cs i) u s f)
       (number e (Read u s f d) ∙ rw (h .same) (last-row (ledgerAt cs i) (storedLinkable e) u s f d g)
@@ -130,7 +141,7 @@ module _ (cs : List Call) where
   none-met : (i u s f d : ℕ) → i < length cs → verdict (engineAt cs i) (Read u s f d) ≡ Granted → refusal (ledgerAt cs i) (Read u s f d) ≡ 0
   unfolding returned
   none-met i u s f d l v =
-      let h = at cs i (omega arith) in
+      let h = at cs i in
       let e = engineAt cs i in
       let g = passed-iff (storedLinkable e) (seen e) u s f d .0 (sym (number e (Read u s f d)) ∙ ap returned v) in
       rw (← (h .same))
@@ -147,7 +158,9 @@ module _ (cs : List Call) where
 
 pub demand3 : (cs : List Call) → Demand3 cs
 demand3 cs = record {
-  accepting = λ i l h. rw (← (at cs i (omega arith) .same)) (accepts-seen (engineAt cs i) (callAt cs i) h);
+  accepting = λ i l h. rw (← (at cs i .same)) (accepts-seen (engineAt cs i) (callAt cs i) h);
+  same = λ i. at cs i .same;
+  numbered = λ i l. number (engineAt cs i) (callAt cs i) ∙ stored-row (engineAt cs i) (callAt cs i) (at cs i .kept) ∙ ap (λ (m : Ledger). refusal m (callAt cs i)) (at cs i .same);
   second = λ i u s f d l c r. halves cs i u s f d l (read-passed-earlier (ledgerAt cs i) u s f d r);
   first = λ i j u s f g d e l m p q n v w a b k. first-half cs i j u s f g d e l m p q n (none-met cs i u s f d (omega arith) v) (none-met cs j u s g e m w) a b k;
 }

@@ -79,6 +79,32 @@ passed-iff p l u s f d = (
   λ h. rw (within u s f d .1 (h .bounds), h .opened, lt-leb (length (l .flows s)) f (h .there), h .reached, h .permitted, le-ltb (flowOf l s f .version) (l .version u) (h .current), h .unlinked),
 )
 
+-- two lists of rows that differ after a row are the same where it is met
+unless : (b : Bool) (n x y : ℕ) → (b ≡ false → x ≡ y) → cond b n x ≡ cond b n y
+unless true n x y f = refl
+unless false n x y f = f refl
+
+-- what row 14 goes by matters only where the earlier rows are passed
+pub read-rows : (p q : ℕ → ℕ → ℕ → Bool) (l : Ledger) (u s f d : ℕ) → (PassedEarlier l u s f d → p u s f ≡ q u s f) → firstMet (table l p) (Read u s f d) ≡ firstMet (table l q) (Read u s f d)
+unfolding firstMet table among kind aboveLimit named flowsNamed flowNamed onRead
+read-rows p q l u s f d h =
+    unless _ 2 _ _
+    (λ a. unless _ 6 _ _
+    (λ b. unless _ 10 _ _
+    (λ c. unless _ 11 _ _
+    (λ e. unless _ 12 _ _
+    (λ g. unless _ 13 _ _
+    (λ i. ap (λ (x : Bool). cond x 14 0)
+    (h (record {
+      bounds = within u s f d .0 a;
+      opened = not-false (l .opened s) b;
+      there = leb-false (length (l .flows s)) f c;
+      reached = not-false (flowOf l s f .reach d) e;
+      permitted = not-false (some 64 (λ r. l .holds u r && l .mayRead r d)) g;
+      current = ltb-false (flowOf l s f .version) (l .version u) i;
+      unlinked = refl;
+    }))))))))
+
 pub read-passed : (l : Ledger) (u s f d : ℕ) → refusal l (Read u s f d) ≡ 0 → Passed l u s f d
 unfolding refusal
 read-passed l u s f d h = passed-iff (linked l) l u s f d .0 h
@@ -373,7 +399,7 @@ since-step l m c o h = record {
 -- ---- one call after the other
 
 -- what every step keeps holds to the end
-along : (P : ℕ → Type 0) (i j : ℕ) → i ≤ j → P i → ((k : ℕ) → i ≤ k → k < j → P k → P (suc k)) → P j
+pub along : (P : ℕ → Type 0) (i j : ℕ) → i ≤ j → P i → ((k : ℕ) → i ≤ k → k < j → P k → P (suc k)) → P j
 along P i zero l h f = subst P (omega arith) h
 along P i (suc j) l h f = go (decLt j i) (along P i j)
   where

@@ -12,3 +12,4 @@ pub mod Seen
 pub mod Demands
 pub mod Steps
 pub mod Additions
+pub mod Lasting

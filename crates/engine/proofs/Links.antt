@@ -234,7 +234,7 @@ one-place s f t g fl gl e = omega arith
 
 -- the role set of a flow, for a role that a holder of a denied role holds too: the role is a parent, so only reading counts
 has-roleSet : (roles readers : List ℕ) (deny x u o r : ℕ) → u < 256 → o < 64 → there roles u o ≡ true → has deny o ≡ true → r < 64 → there roles u r ≡ true
-    → has (roleSet roles readers deny x) r ≡ has (readersOf 64 64 readers x) r
+    → has (roleSet 64 256 64 roles readers deny x) r ≡ has (readersOf 64 64 readers x) r
 unfolding roleSet
 has-roleSet roles readers deny x u o r ul ol oh od rl rh =
     has-shared 64 (readersOf 64 64 readers x) (parentsOf 64 256 roles deny) r rl
@@ -304,7 +304,7 @@ module _ (e : Engine) (z : Sized e) (k : Kept e) (s root chosen : ℕ) (sl : s <
           let q : g ≡ n = omega arith in
           rw (q, le-ltb n n (omega arith)) (getD-set-same (e .sessions .reaches) (place s n) new 0 (rw (z .reaches) inside))
 
-  its-roles : (g : ℕ) → g ≤ n → getD (c .roles) g 0 ≡ roleSet (e .directory .tables .roles) (e .directory .tables .readers) (c .deny) (getD (S .reaches) (place s g) 0)
+  its-roles : (g : ℕ) → g ≤ n → getD (c .roles) g 0 ≡ roleSet 64 256 64 (e .directory .tables .roles) (e .directory .tables .readers) (c .deny) (getD (S .reaches) (place s g) 0)
   unfolding c newConstraint new n
   its-roles g l = getD-listOf 8 _ g 0 (omega arith) ∙ rw (le-leb g n l, its-reach g l)
 

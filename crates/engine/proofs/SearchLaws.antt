@@ -91,7 +91,7 @@ module _ (readers reaches : List ℕ) (s n new : ℕ) where
   by-flow l e = e
 
   -- the conflicts found by the flows' readers are those of the flows' reaches
-  pub conflicts-by-flow : (roles : List ℕ) → n < 8 → conflictsOf roles (readersByFlow readers reaches s n new) (n + 1) ≡ conflicts roles readers (suc n) (reachWith reaches s n new)
+  pub conflicts-by-flow : (roles : List ℕ) → n < 8 → conflictsOf roles (readersByFlow readers reaches s n new) (n + 1) ≡ conflicts 64 256 64 roles readers (suc n) (reachWith reaches s n new)
   unfolding conflictsOf conflicts readsTwo readersByFlow
   conflicts-by-flow roles m =
       ap (conflictsOf roles (readersByFlow readers reaches s n new)) (add-one n)
@@ -118,7 +118,7 @@ share-none n y = sym (is-setOf n 0 (λ j. has 0 j && has y j) (pow-pos n) (λ j 
 
 -- of each flow's readers, those that are a parent of a denied role
 pub role-sets-made : (roles readers reaches : List ℕ) (s n new deny : ℕ)
-    → withKin (readersByFlow readers reaches s n new) (parentsOf 64 256 roles deny) ≡ listOf 8 (λ g. cond (leb g n) (roleSet roles readers deny (reachWith reaches s n new g)) 0)
+    → withKin (readersByFlow readers reaches s n new) (parentsOf 64 256 roles deny) ≡ listOf 8 (λ g. cond (leb g n) (roleSet 64 256 64 roles readers deny (reachWith reaches s n new g)) 0)
 unfolding withKin readersByFlow roleSet
 role-sets-made roles readers reaches s n new deny =
     listOf-cong 8 (λ g. shared 64 (getD (listOf 8 may) g 0) kin) (λ g. cond (leb g n) (shared 64 (of g) kin) 0)

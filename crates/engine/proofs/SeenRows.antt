@@ -211,7 +211,7 @@ module _ (e : Engine) (s root : ℕ) (new : Flow) (fresh : (d : ℕ) → d < 64 
       ∙ ap (λ (n : ℕ). count n (λ g. reads (seen e) u (getD (seen e .flows s ++ (new ∷ [])) g new))) (sym (length-snoc (seen e .flows s) new ∙ ap suc (length-flows e s))))))
 
 -- a chosen role is not among them
-outside-seen : (e : Engine) (s root m : ℕ) → outside m (conflictsWith e s root) ≡ some 64 (λ r. has m r && not (isConflicting (seen e) s (newFlow (seen e) s root m) r))
+outside-seen : (e : Engine) (s root m : ℕ) → outside 64 m (conflictsWith e s root) ≡ some 64 (λ r. has m r && not (isConflicting (seen e) s (newFlow (seen e) s root m) r))
 unfolding outside newFlow
 outside-seen e s root m = some-cong 64 _ _ (λ r l. ap (λ (b : Bool). has m r && not b) (conflicts-seen e s root (newFlow (seen e) s root m) (λ d k. reach-seen e root d k) r l))
 
@@ -235,7 +235,7 @@ outdated : (e : Engine) (u s f : ℕ) → f < getD (e .sessions .counts) s 0 →
 unfolding flowSeen seen
 outdated e u s f k = ap (λ (flow : Flow). ltb (flow .version) (getD (e .directory .versions) u 0)) (sym (flow-seen e s f k))
 
-stored : (e : Engine) (u s f : ℕ) → linkable (getD (e .directory .tables .roles) u 0) (constraintAt (e .sessions .constraints) s f) ≡ storedLinkable e u s f
+stored : (e : Engine) (u s f : ℕ) → linkable 64 8 (getD (e .directory .tables .roles) u 0) (constraintAt (e .sessions .constraints) s f) ≡ storedLinkable e u s f
 unfolding storedLinkable
 stored e u s f = refl
 

@@ -7,7 +7,7 @@ use lib.Dec.{leb, ltb}
 use lib.ListN.{getD, replicate}
 use Rattle.sets.specs.Sets.{joined}
 use Rattle.tables.specs.Reach.{reach}
-use Rattle.tables.specs.Tables.{roleCount, databaseCount}
+use Rattle.tables.specs.Tables.{userCount, roleCount, databaseCount}
 use Rattle.engine.specs.declared.Constraint.{Constraint}
 use Rattle.engine.specs.declared.flow.Addition.{Addition}
 use Rattle.engine.specs.declared.calls.Call.{Call}
@@ -44,7 +44,7 @@ constraintFrom roles readers forwards version n reaches last s root chosen =
     record {
       version = version;
       deny = deny;
-      roles = listOf flowCount (λ g. cond (leb g n) (roleSet roles readers deny (reachWith reaches s n (reach databaseCount forwards root) g)) 0);
+      roles = listOf flowCount (λ g. cond (leb g n) (roleSet roleCount userCount databaseCount roles readers deny (reachWith reaches s n (reach databaseCount forwards root) g)) 0);
     }
 
 -- nothing is to be stored

@@ -9,6 +9,7 @@ use lib.Dec.{ltb, eqb}
 use lib.ListN.{length, getD, take}
 use Rattle.sets.specs.Sets.{has, count}
 use Rattle.tables.specs.Rows.{there}
+use Rattle.tables.specs.Tables.{roleCount}
 use Rattle.engine.specs.declared.Engine.{Engine}
 use Rattle.engine.specs.declared.calls.Refusal.{Refusal}
 use Rattle.engine.specs.declared.calls.Refusal.the-variants.{Linkable}
@@ -18,11 +19,11 @@ use Rattle.engine.specs.declared.calls.Call.{Call}
 use Rattle.engine.specs.declared.calls.Call.the-variants.{Assign, Withdraw, Permit, Revoke, Forward, Open, Conflicting, Add, Read, Show, Unreadable}
 use Rattle.engine.specs.declared.calls.Verdict.{Verdict}
 use Rattle.engine.specs.declared.calls.Verdict.the-variants.{Granted, Refused}
-use Rattle.engine.specs.State.{fresh, place, listOf, constraintAt, linkable}
+use Rattle.engine.specs.State.{fresh, flowCount, place, listOf, constraintAt, linkable}
 use Rattle.engine.specs.Calls.{verdict, returned, changed, after, accepted, answer}
 use Rattle.engine.specs.Ledger.{Ledger, start, flowOf, reachOf, isConflicting, holdsDenied, linked}
 use Rattle.engine.specs.Ledger.{Flow as Flow·}
-use Rattle.engine.specs.Refusals.{table, firstMet, earlierRefusal, accepts, newFlow, ledgerAfter}
+use Rattle.engine.specs.Refusals.{table, firstMet, refusal, earlierRefusal, accepts, newFlow, ledgerAfter}
 
 -- ---- an engine as a ledger sees it
 
@@ -47,7 +48,7 @@ seen e = record {
 
 -- row 14 as an engine goes by it: its stored constraint
 unfoldable pub storedLinkable : Engine → ℕ → ℕ → ℕ → Bool
-storedLinkable e u s f = linkable (getD (e .directory .tables .roles) u 0) (constraintAt (e .sessions .constraints) s f)
+storedLinkable e u s f = linkable roleCount flowCount (getD (e .directory .tables .roles) u 0) (constraintAt (e .sessions .constraints) s f)
 
 -- ---- demand 1, for every engine and every call
 
@@ -138,6 +139,11 @@ pub record Demand3 (cs : List Call) : Type 0 where
   -- "the engine accepts a call other than a read exactly when the ledger does"
   pub accepting : (i : ℕ) → i < length cs → isRead (callAt cs i) ≡ false
       → eqb (returned (verdict (engineAt cs i) (callAt cs i))) 0 ≡ accepts (ledgerAt cs i) (callAt cs i)
+  -- "It holds the tables, the system version, the users' versions, and the open sessions with their flows in order": just before call i,
+  -- and after the last one, these are the engine's
+  pub same : (i : ℕ) → seen (engineAt cs i) ≡ ledgerAt cs i
+  -- "Checks run in the order of the rows": what a call returns, a read too, is the number of the first row that it meets by the ledger, and 0 where it meets none
+  pub numbered : (i : ℕ) → i < length cs → returned (verdict (engineAt cs i) (callAt cs i)) ≡ refusal (ledgerAt cs i) (callAt cs i)
   -- second half: "a read that meets no earlier row is refused as linkable exactly when its user, by the tables of that moment, holds a role
   -- of the flow's deny set and may read at least two flows of the session, counted up to and including that one; otherwise it is granted"
   pub second : (i u s f d : ℕ) → i < length cs → callAt cs i ≡ Read u s f d

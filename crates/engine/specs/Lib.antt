@@ -9,3 +9,4 @@ pub mod Search
 pub mod Steps
 pub mod Additions
 pub mod Laws
+pub mod Lasting

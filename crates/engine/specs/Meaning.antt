@@ -2,15 +2,15 @@
 -- Assumes nothing.
 use Prim.Native.Nat.{ℕ, zero, suc, _+_, _≤_, _<_}
 use mathlib.Core.Path.{_≡_, refl, sym, ap, _∙_}
-use mathlib.Core.Bool.{Bool, true, false, cond, _&&_, _||_, true≢false}
+use mathlib.Core.Bool.{Bool, true, false, cond, not, _&&_, _||_, true≢false}
 use mathlib.Core.List.{List}
 use mathlib.Core.Logic.{_⊎_, inl, inr, ⊎-elim, _↔_, _≢_}
 use native.Mathlib.Decide.{decLt}
 use native.Mathlib.Omega.{arith}
 use lib.Dec.{leb, ltb, eqb}
-use lib.ListN.{length, getD, length-replicate}
+use lib.ListN.{length, getD, replicate, length-replicate}
 use lib.Seq.{getD-set-same, getD-set-other}
-use borrow.Author.Tests.{ltb-true, ltb-false, lt-ltb, le-ltb, le-leb, lt-leb, eq-eqb, eqb-true}
+use borrow.Author.Tests.{ltb-true, ltb-false, leb-false, lt-ltb, le-ltb, le-leb, lt-leb, eq-eqb, eqb-true, not-true, not-false}
 use Rattle.sets.specs.Sets.{has, some, count, inserted, meeting}
 use Rattle.sets.specs.Laws.{true-or-false, and-both, and-true, or-either, or-left, or-right, some-of, some-at, some-nowhere, two-iff, has-setOf-iff, has-shared-iff, has-joined-iff, meeting-iff, has-inserted, has-empty}
 use Rattle.tables.specs.declared.Tables.{Tables}
@@ -22,12 +22,15 @@ use Rattle.tables.specs.Meaning.{readers-iff, overlaps-iff, parents-iff, held-i
 use Rattle.engine.specs.declared.Constraint.{Constraint}
 use Rattle.engine.specs.declared.Directory.{Directory}
 use Rattle.engine.specs.declared.Engine.{Engine}
-use Rattle.engine.specs.declared.calls.Refusal.the-variants.{Changed, Linkable}
+use Rattle.engine.specs.declared.calls.Refusal.{Refusal}
+use Rattle.engine.specs.declared.calls.Refusal.the-variants.{AboveLimit, NotOpen, NoSuchFlow, OutOfReach, NoPermission, Changed, Linkable}
 use Rattle.engine.specs.declared.calls.Call.the-variants.{Assign, Withdraw, Permit, Revoke, Forward, Open, Conflicting, Add, Read, Show}
+use Rattle.engine.specs.declared.calls.Verdict.{Verdict}
 use Rattle.engine.specs.declared.calls.Verdict.the-variants.{Granted, Refused}
+use Rattle.engine.specs.declared.calls.Answer.the-variants.{Constraint as Answer·Constraint, Refused as Answer·Refused}
 use Rattle.engine.specs.State.{sessionCount, flowCount, placeCount, place, noConstraint, constraintAt, reachWith, readsTwo, conflicts, conflictsIn, conflictsWith, roleSet, denyBefore, newConstraint, linkable, newVersion, noSessions, fresh}
-use Rattle.engine.specs.Rows.{refuse, flowRows, readRows, readVerdict}
-use Rattle.engine.specs.Calls.{verdict, withTables, withDirectory, withSessions, toHolders, sessionOpened, flowPut, changed, shownConstraint, shownBy}
+use Rattle.engine.specs.Rows.{refuse, outside, flowRows, readRows, readVerdict}
+use Rattle.engine.specs.Calls.{numberOf, returned, verdict, withTables, withDirectory, withSessions, toHolders, sessionOpened, flowPut, changed, accepted, answerOf, answer, shownConstraint, shownBy}
 use Rattle.engine.specs.Laws.{getD-same, getD-listOf, getD-listOf-past, places, place-lt}
 
 -- ---- flows: how many a session has, and what is kept of each
@@ -59,23 +62,23 @@ pub counted-new : (e : Engine) (s root : ℕ) → countedIn e s root (flowsOf e 
 unfolding reachWith
 counted-new e s root = rw (le-ltb (flowsOf e s) (flowsOf e s) (omega arith))
 
--- of n flows: "A role c is conflicting for a session if some user holds c and may statically read at least two of its flows."
-pub conflicts-of : (roles readers : List ℕ) (n : ℕ) (reachOf : ℕ → ℕ) (c : ℕ)
-    → (has (conflicts roles readers n reachOf) c ≡ true)
-    ↔ ((c < roleCount) × ((u : ℕ) × (u < userCount) × (there roles u c ≡ true)
-    × ((f : ℕ) × (g : ℕ) × (f < g) × (g < n) × (staticallyReads roleCount databaseCount roles readers u (reachOf f) ≡ true) × (staticallyReads roleCount databaseCount roles readers u (reachOf g) ≡ true))))
+-- of n flows, over any number of roles, users and databases: "A role c is conflicting for a session if some user holds c and may statically read at least two of its flows."
+pub conflicts-of : (nr nu nd : ℕ) (roles readers : List ℕ) (n : ℕ) (reachOf : ℕ → ℕ) (c : ℕ)
+    → (has (conflicts nr nu nd roles readers n reachOf) c ≡ true)
+    ↔ ((c < nr) × ((u : ℕ) × (u < nu) × (there roles u c ≡ true)
+    × ((f : ℕ) × (g : ℕ) × (f < g) × (g < n) × (staticallyReads nr nd roles readers u (reachOf f) ≡ true) × (staticallyReads nr nd roles readers u (reachOf g) ≡ true))))
 unfolding conflicts readsTwo
-conflicts-of roles readers n reachOf c = (
+conflicts-of nr nu nd roles readers n reachOf c = (
   λ h.
-      let a = has-setOf-iff roleCount (λ x. some userCount (p x)) c .0 h in
-      let u = some-of userCount (p c) (a .1) in
+      let a = has-setOf-iff nr (λ x. some nu (p x)) c .0 h in
+      let u = some-of nu (p c) (a .1) in
       let b = and-both (there roles (u .0) c) (leb 2 (count n (q (u .0)))) (u .2) in
       (a .0, (u .0, u .1, b .0, two-iff n (q (u .0)) .0 (b .1))),
-  λ r. has-setOf-iff roleCount (λ x. some userCount (p x)) c .1 (r .0, some-at userCount (p c) (r .1 .0) (r .1 .1) (and-true (r .1 .2) (two-iff n (q (r .1 .0)) .1 (r .1 .3)))),
+  λ r. has-setOf-iff nr (λ x. some nu (p x)) c .1 (r .0, some-at nu (p c) (r .1 .0) (r .1 .1) (and-true (r .1 .2) (two-iff n (q (r .1 .0)) .1 (r .1 .3)))),
 )
   where
     q : ℕ → ℕ → Bool
-    q u g = staticallyReads roleCount databaseCount roles readers u (reachOf g)
+    q u g = staticallyReads nr nd roles readers u (reachOf g)
 
     p : ℕ → ℕ → Bool
     p x u = there roles u x && leb 2 (count n (q u))
@@ -89,7 +92,7 @@ pub conflicts-iff : (e : Engine) (s root c : ℕ)
     × (staticallyReads roleCount databaseCount (e .directory .tables .roles) (e .directory .tables .readers) u (countedIn e s root g) ≡ true))))
 unfolding conflictsWith conflictsIn
 conflicts-iff e s root c =
-    let w = conflicts-of (e .directory .tables .roles) (e .directory .tables .readers) (suc (flowsOf e s)) (countedIn e s root) c in (
+    let w = conflicts-of roleCount userCount databaseCount (e .directory .tables .roles) (e .directory .tables .readers) (suc (flowsOf e s)) (countedIn e s root) c in (
       λ h.
           let r = w .0 h in
           let l : r .1 .3 .1 ≤ flowsOf e s = omega (arith, r .1 .3 .3) in
@@ -102,34 +105,45 @@ conflicts-iff e s root c =
 -- ---- role sets
 
 -- "the roles that may, at this addition, read a database in that flow's reach and are a parent of some role in the deny set";
--- r is a parent of o where "some user holds both"
-pub role-set-iff : (roles readers : List ℕ) (deny reach r : ℕ)
-    → (has (roleSet roles readers deny reach) r ≡ true)
-    ↔ ((r < roleCount)
-    × ((d : ℕ) × (d < databaseCount) × (has reach d ≡ true) × (there readers d r ≡ true))
-    × ((o : ℕ) × (o < roleCount) × (has deny o ≡ true) × ((u : ℕ) × (u < userCount) × (there roles u o ≡ true) × (there roles u r ≡ true))))
+-- r is a parent of o where "some user holds both"; over any number of roles, users and databases
+pub role-set-iff : (nr nu nd : ℕ) (roles readers : List ℕ) (deny reach r : ℕ)
+    → (has (roleSet nr nu nd roles readers deny reach) r ≡ true)
+    ↔ ((r < nr)
+    × ((d : ℕ) × (d < nd) × (has reach d ≡ true) × (there readers d r ≡ true))
+    × ((o : ℕ) × (o < nr) × (has deny o ≡ true) × ((u : ℕ) × (u < nu) × (there roles u o ≡ true) × (there roles u r ≡ true))))
 unfolding roleSet
-role-set-iff roles readers deny reach r = (
+role-set-iff nr nu nd roles readers deny reach r = (
   λ h.
-      let a = has-shared-iff roleCount may kin r .0 h in
-      let b = readers-iff roleCount databaseCount readers reach r .0 (a .1) in
-      let c = parents-iff roleCount userCount roles deny r .0 (a .2) in
-      (a .0, b .1, (c .1 .0, c .1 .1, c .1 .2, overlaps-iff userCount roles (c .1 .0) r .0 (c .1 .3))),
+      let a = has-shared-iff nr may kin r .0 h in
+      let b = readers-iff nr nd readers reach r .0 (a .1) in
+      let c = parents-iff nr nu roles deny r .0 (a .2) in
+      (a .0, b .1, (c .1 .0, c .1 .1, c .1 .2, overlaps-iff nu roles (c .1 .0) r .0 (c .1 .3))),
   λ w.
-      has-shared-iff roleCount may kin r .1 (
+      has-shared-iff nr may kin r .1 (
         w .0,
-        readers-iff roleCount databaseCount readers reach r .1 (w .0, w .1),
-        parents-iff roleCount userCount roles deny r .1 (w .0, (w .2 .0, w .2 .1, w .2 .2, overlaps-iff userCount roles (w .2 .0) r .1 (w .2 .3))),
+        readers-iff nr nd readers reach r .1 (w .0, w .1),
+        parents-iff nr nu roles deny r .1 (w .0, (w .2 .0, w .2 .1, w .2 .2, overlaps-iff nu roles (w .2 .0) r .1 (w .2 .3))),
       ),
 )
   where
     may : ℕ
-    may = readersOf roleCount databaseCount readers reach
+    may = readersOf nr nd readers reach
 
     kin : ℕ
-    kin = parentsOf roleCount userCount roles deny
+    kin = parentsOf nr nu roles deny
 
 -- ---- an addition
+
+-- "a chosen role isn't conflicting", over any number of roles
+pub outside-iff : (nr chosen conflicting : ℕ) → (outside nr chosen conflicting ≡ true) ↔ ((r : ℕ) × (r < nr) × (has chosen r ≡ true) × (has conflicting r ≡ false))
+unfolding outside
+outside-iff nr chosen conflicting = (
+  λ h.
+      let w = some-of nr (λ r. has chosen r && not (has conflicting r)) h in
+      let b = and-both (has chosen (w .0)) (not (has conflicting (w .0))) (w .2) in
+      (w .0, w .1, b .0, not-true (has conflicting (w .0)) (b .1)),
+  λ r. some-at nr (λ x. has chosen x && not (has conflicting x)) (r .0) (r .1) (and-true (r .2) (ap not (r .3))),
+)
 
 -- what is there after session s, which had n flows, got one more
 pub record Added (old new : Engine) (s root chosen : ℕ) : Type 0 where
@@ -149,7 +163,7 @@ pub record Added (old new : Engine) (s root chosen : ℕ) : Type 0 where
   -- "one role set for each flow up to itself"; "Role sets of older flows are worked out afresh for the new flow's constraint"
   pub roles-of : (g : ℕ) → g ≤ flowsOf old s
       → getD (constraintOf new s (flowsOf old s) .roles) g 0
-      ≡ roleSet (old .directory .tables .roles) (old .directory .tables .readers) (constraintOf new s (flowsOf old s) .deny) (reachAt new s g)
+      ≡ roleSet roleCount userCount databaseCount (old .directory .tables .roles) (old .directory .tables .readers) (constraintOf new s (flowsOf old s) .deny) (reachAt new s g)
   pub roles-past : (g : ℕ) → flowsOf old s < g → getD (constraintOf new s (flowsOf old s) .roles) g 0 ≡ 0
   -- "older constraints stay", and so do the roots and the reaches of all other flows
   pub older : (t f : ℕ) → f < flowCount → (t ≡ s → f ≡ flowsOf old s → ⊥)
@@ -212,12 +226,12 @@ module _ (e : Engine) (s root chosen : ℕ)
           let q : g ≡ n = omega arith in
           rw q (counted-new e s root ∙ sym reach-put)
 
-  roles-put : (g : ℕ) → g ≤ n → getD (made .roles) g 0 ≡ roleSet (e .directory .tables .roles) (e .directory .tables .readers) (made .deny) (reachAt put s g)
+  roles-put : (g : ℕ) → g ≤ n → getD (made .roles) g 0 ≡ roleSet roleCount userCount databaseCount (e .directory .tables .roles) (e .directory .tables .readers) (made .deny) (reachAt put s g)
   unfolding n new made newConstraint
   roles-put g l =
       getD-listOf flowCount _ g 0 (omega arith)
       ∙ rw (le-leb g n l)
-      (ap (roleSet (e .directory .tables .roles) (e .directory .tables .readers) (made .deny)) (reach-with g l))
+      (ap (roleSet roleCount userCount databaseCount (e .directory .tables .roles) (e .directory .tables .readers) (made .deny)) (reach-with g l))
 
   past-put : (g : ℕ) → n < g → getD (made .roles) g 0 ≡ 0
   unfolding n new made newConstraint
@@ -393,43 +407,50 @@ pub open-keeps : (e : Engine) (s t f : ℕ) → (flowsOf (changed e (Open s)) t 
 unfolding changed withSessions sessionOpened
 open-keeps e s t f = (refl, refl, refl, refl)
 
--- what 0a shows is the flow's own constraint
-pub shown-kept : (e : Engine) (s f : ℕ) → verdict e (Show s f) ≡ Granted → shownBy e s f .constraint ≡ constraintAt (e .sessions .constraints) s f
-unfolding shownBy shownConstraint
-shown-kept e s f h = rw h
+-- what 0a gives back, in both cases
+pub record ShowMeans (e : Engine) (s f : ℕ) : Type 0 where
+  -- "nothing but the number is returned": the constraint beside a refusal is all zero, whatever the engine
+  pub refused : (why : Refusal) → verdict e (Show s f) ≡ Refused why
+      → shownBy e s f ≡ record { answer = Answer·Refused why; constraint = record { version = 0; deny = 0; roles = replicate flowCount 0 } }
+  -- "for 0a version, deny set, then the role sets from flow 0 on": the flow's own constraint, and f + 1 role sets
+  pub granted : verdict e (Show s f) ≡ Granted → shownBy e s f ≡ record { answer = Answer·Constraint (f + 1); constraint = constraintAt (e .sessions .constraints) s f }
+
+pub show-means : (e : Engine) (s f : ℕ) → ShowMeans e s f
+unfolding shownBy shownConstraint answer answerOf accepted
+show-means e s f = record { refused = λ why h. rw h; granted = λ h. rw h }
 
 -- ---- the verdict on a read
 
--- user u "holds a role of f's deny set and u's roles meet at least two of f's role sets": c is f's constraint
-abbrev pub HoldsDenied : List ℕ → ℕ → Constraint → Type 0
-HoldsDenied roles u c = (o : ℕ) × (o < roleCount) × (there roles u o ≡ true) × (has (c .deny) o ≡ true)
+-- user u "holds a role of f's deny set and u's roles meet at least two of f's role sets": c is f's constraint, and there are nr roles and nf flows
+abbrev pub HoldsDenied : ℕ → List ℕ → ℕ → Constraint → Type 0
+HoldsDenied nr roles u c = (o : ℕ) × (o < nr) × (there roles u o ≡ true) × (has (c .deny) o ≡ true)
 
-abbrev pub Meets : List ℕ → ℕ → Constraint → ℕ → Type 0
-Meets roles u c g = (r : ℕ) × (r < roleCount) × (there roles u r ≡ true) × (has (getD (c .roles) g 0) r ≡ true)
+abbrev pub Meets : ℕ → List ℕ → ℕ → Constraint → ℕ → Type 0
+Meets nr roles u c g = (r : ℕ) × (r < nr) × (there roles u r ≡ true) × (has (getD (c .roles) g 0) r ≡ true)
 
-abbrev pub Links : List ℕ → ℕ → Constraint → Type 0
-Links roles u c = HoldsDenied roles u c × ((f : ℕ) × (g : ℕ) × (f < g) × (g < flowCount) × Meets roles u c f × Meets roles u c g)
+abbrev pub Links : ℕ → ℕ → List ℕ → ℕ → Constraint → Type 0
+Links nr nf roles u c = HoldsDenied nr roles u c × ((f : ℕ) × (g : ℕ) × (f < g) × (g < nf) × Meets nr roles u c f × Meets nr roles u c g)
 
-pub linkable-iff : (roles : List ℕ) (u : ℕ) (c : Constraint) → (linkable (getD roles u 0) c ≡ true) ↔ Links roles u c
+pub linkable-iff : (nr nf : ℕ) (roles : List ℕ) (u : ℕ) (c : Constraint) → (linkable nr nf (getD roles u 0) c ≡ true) ↔ Links nr nf roles u c
 unfolding linkable there
-linkable-iff roles u c = (
+linkable-iff nr nf roles u c = (
   λ h.
-      let a = and-both (meeting roleCount held (c .deny)) (leb 2 (count flowCount meets)) h in
-      let w = two-iff flowCount meets .0 (a .1) in
-      (meeting-iff roleCount held (c .deny) .0 (a .0), (w .0, w .1, w .2, w .3, met (w .0) .0 (w .4), met (w .1) .0 (w .5))),
+      let a = and-both (meeting nr held (c .deny)) (leb 2 (count nf meets)) h in
+      let w = two-iff nf meets .0 (a .1) in
+      (meeting-iff nr held (c .deny) .0 (a .0), (w .0, w .1, w .2, w .3, met (w .0) .0 (w .4), met (w .1) .0 (w .5))),
   λ k.
-      and-true (meeting-iff roleCount held (c .deny) .1 (k .0))
-      (two-iff flowCount meets .1 (k .1 .0, k .1 .1, k .1 .2, k .1 .3, met (k .1 .0) .1 (k .1 .4), met (k .1 .1) .1 (k .1 .5))),
+      and-true (meeting-iff nr held (c .deny) .1 (k .0))
+      (two-iff nf meets .1 (k .1 .0, k .1 .1, k .1 .2, k .1 .3, met (k .1 .0) .1 (k .1 .4), met (k .1 .1) .1 (k .1 .5))),
 )
   where
     held : ℕ
     held = getD roles u 0
 
     meets : ℕ → Bool
-    meets g = meeting roleCount held (getD (c .roles) g 0)
+    meets g = meeting nr held (getD (c .roles) g 0)
 
-    met : (g : ℕ) → (meets g ≡ true) ↔ Meets roles u c g
-    met g = meeting-iff roleCount held (getD (c .roles) g 0)
+    met : (g : ℕ) → (meets g ≡ true) ↔ Meets nr roles u c g
+    met g = meeting-iff nr held (getD (c .roles) g 0)
 
 -- "After the checks in the table": the read of flow f of session s at database d by user u meets no row before 13
 pub record Checked (e : Engine) (u s f d : ℕ) : Type 0 where
@@ -463,6 +484,49 @@ last-rows false false = (
   (λ h. (refl, refl), λ h. refl),
 )
 
+-- a row that gives another verdict was passed
+passed-over : (b : Bool) (why : Refusal) (later v : Verdict) → Refused why ≢ v → refuse b why later ≡ v → (b ≡ false) × (later ≡ v)
+passed-over true why later v n h = absurd (n h)
+passed-over false why later v n h = (refl, h)
+
+-- v is no refusal by a row before 13
+abbrev Late : Verdict → Type 0
+Late v = (why : Refusal) → numberOf why < 13 → Refused why ≢ v
+
+late-granted : Late Granted
+late-granted why l h = let z : _≡_ {A = ℕ} 0 1 = cc in omega arith
+
+late-changed : Late (Refused Changed)
+unfolding returned numberOf
+late-changed why l h = omega (arith, ap returned h)
+
+late-linkable : Late (Refused Linkable)
+unfolding returned numberOf
+late-linkable why l h = omega (arith, ap returned h)
+
+-- a read that meets none of the rows before 13 passed them
+read-checked : (e : Engine) (u s f d : ℕ) (v : Verdict) → Late v → verdict e (Read u s f d) ≡ v → Checked e u s f d
+unfolding verdict readVerdict flowRows readRows numberOf there
+read-checked e u s f d v late h =
+    let a = passed-over (leb userCount u) AboveLimit _ v (late AboveLimit (omega arith)) h in
+    let b = passed-over (leb databaseCount d) AboveLimit _ v (late AboveLimit (omega arith)) (a .1) in
+    let c = passed-over (leb sessionCount s) AboveLimit _ v (late AboveLimit (omega arith)) (b .1) in
+    let g = passed-over (leb flowCount f) AboveLimit _ v (late AboveLimit (omega arith)) (c .1) in
+    let o = passed-over (not (has (e .sessions .opened) s)) NotOpen _ v (late NotOpen (omega arith)) (g .1) in
+    let n = passed-over (leb (flowsOf e s) f) NoSuchFlow _ v (late NoSuchFlow (omega arith)) (o .1) in
+    let r = passed-over (not (has (reachAt e s f) d)) OutOfReach _ v (late OutOfReach (omega arith)) (n .1) in
+    let p = passed-over (not (meeting roleCount (getD (e .directory .tables .roles) u 0) (getD (e .directory .tables .readers) d 0))) NoPermission _ v (late NoPermission (omega arith)) (r .1) in
+    record {
+      user = leb-false userCount u (a .0);
+      database = leb-false databaseCount d (b .0);
+      session = leb-false sessionCount s (c .0);
+      flow = leb-false flowCount f (g .0);
+      opened = not-false (has (e .sessions .opened) s) (o .0);
+      counted = leb-false (flowsOf e s) f (n .0);
+      reached = not-false (has (reachAt e s f) d) (r .0);
+      permitted = meeting-iff roleCount (getD (e .directory .tables .roles) u 0) (getD (e .directory .tables .readers) d 0) .0 (not-false _ (p .0));
+    }
+
 module _ (e : Engine) (u s f d : ℕ) (k : Checked e u s f d) where
   versionOf : ℕ
   versionOf = getD (e .directory .versions) u 0
@@ -471,7 +535,7 @@ module _ (e : Engine) (u s f d : ℕ) (k : Checked e u s f d) where
   changedTest = ltb (constraintOf e s f .version) versionOf
 
   linkableTest : Bool
-  linkableTest = linkable (getD (e .directory .tables .roles) u 0) (constraintOf e s f)
+  linkableTest = linkable roleCount flowCount (getD (e .directory .tables .roles) u 0) (constraintOf e s f)
 
   read-rows : verdict e (Read u s f d) ≡ refuse changedTest Changed (refuse linkableTest Linkable Granted)
   unfolding versionOf changedTest linkableTest verdict readVerdict flowRows readRows there
@@ -487,34 +551,64 @@ module _ (e : Engine) (u s f d : ℕ) (k : Checked e u s f d) where
         meeting-iff roleCount (getD (e .directory .tables .roles) u 0) (getD (e .directory .tables .readers) d 0) .1 (k .permitted),
       )
 
-  -- "refused as changed if u's version is greater than f's"
-  pub read-changed : (verdict e (Read u s f d) ≡ Refused Changed) ↔ (constraintOf e s f .version < getD (e .directory .versions) u 0)
+  read-changed : (verdict e (Read u s f d) ≡ Refused Changed) ↔ (constraintOf e s f .version < getD (e .directory .versions) u 0)
   unfolding versionOf changedTest
   read-changed =
       let w = last-rows changedTest linkableTest .0 in
       rw read-rows (λ h. ltb-true (constraintOf e s f .version) versionOf (w .0 h), λ h. w .1 (lt-ltb (constraintOf e s f .version) versionOf h))
 
-  -- "refused as linkable if u holds a role of f's deny set and u's roles meet at least two of f's role sets"
-  pub read-linkable : (verdict e (Read u s f d) ≡ Refused Linkable)
-      ↔ ((getD (e .directory .versions) u 0 ≤ constraintOf e s f .version) × Links (e .directory .tables .roles) u (constraintOf e s f))
+  read-linkable : (verdict e (Read u s f d) ≡ Refused Linkable)
+      ↔ ((getD (e .directory .versions) u 0 ≤ constraintOf e s f .version) × Links roleCount flowCount (e .directory .tables .roles) u (constraintOf e s f))
   unfolding versionOf changedTest linkableTest
   read-linkable =
       let w = last-rows changedTest linkableTest .1 in
-      let m = linkable-iff (e .directory .tables .roles) u (constraintOf e s f) in
+      let m = linkable-iff roleCount flowCount (e .directory .tables .roles) u (constraintOf e s f) in
       rw read-rows
       (λ h. let r = w .0 h in (ltb-false (constraintOf e s f .version) versionOf (r .0), m .0 (r .1)), λ h. w .1 (le-ltb (constraintOf e s f .version) versionOf (h .0), m .1 (h .1)))
 
-  -- "else granted"
-  pub read-granted : (verdict e (Read u s f d) ≡ Granted)
-      ↔ ((getD (e .directory .versions) u 0 ≤ constraintOf e s f .version) × (Links (e .directory .tables .roles) u (constraintOf e s f) → ⊥))
+  read-granted : (verdict e (Read u s f d) ≡ Granted)
+      ↔ ((getD (e .directory .versions) u 0 ≤ constraintOf e s f .version) × (Links roleCount flowCount (e .directory .tables .roles) u (constraintOf e s f) → ⊥))
   unfolding versionOf changedTest linkableTest
   read-granted =
       let w = last-rows changedTest linkableTest .2 in
-      let m = linkable-iff (e .directory .tables .roles) u (constraintOf e s f) in
+      let m = linkable-iff roleCount flowCount (e .directory .tables .roles) u (constraintOf e s f) in
       rw read-rows (
         λ h. let r = w .0 h in (ltb-false (constraintOf e s f .version) versionOf (r .0), λ t. true≢false (sym (m .1 t) ∙ r .1)),
         λ h. w .1 (le-ltb (constraintOf e s f .version) versionOf (h .0), ⊎-elim (λ (t : linkableTest ≡ true). absurd (h .1 (m .0 t))) (λ t. t) (true-or-false linkableTest)),
       )
+
+-- what each verdict on a read means, for every engine and all numbers: "A read is answered as granted, or as refused with its number."
+pub record ReadMeans (e : Engine) (u s f d : ℕ) : Type 0 where
+  -- "After the checks in the table: refused as changed if u's version is greater than f's"
+  pub changed : (verdict e (Read u s f d) ≡ Refused Changed) ↔ (Checked e u s f d × (constraintOf e s f .version < getD (e .directory .versions) u 0))
+  -- "refused as linkable if u holds a role of f's deny set and u's roles meet at least two of f's role sets"
+  pub linkable : (verdict e (Read u s f d) ≡ Refused Linkable)
+      ↔ (Checked e u s f d × (getD (e .directory .versions) u 0 ≤ constraintOf e s f .version) × Links roleCount flowCount (e .directory .tables .roles) u (constraintOf e s f))
+  -- "else granted"
+  pub granted : (verdict e (Read u s f d) ≡ Granted)
+      ↔ (Checked e u s f d × (getD (e .directory .versions) u 0 ≤ constraintOf e s f .version) × (Links roleCount flowCount (e .directory .tables .roles) u (constraintOf e s f) → ⊥))
+
+pub read-means : (e : Engine) (u s f d : ℕ) → ReadMeans e u s f d
+read-means e u s f d = record {
+  changed = (
+    λ h. let k = read-checked e u s f d (Refused Changed) late-changed h in (k, read-changed e u s f d k .0 h),
+    λ r. read-changed e u s f d (r .0) .1 (r .1),
+  );
+  linkable = (
+    λ h.
+        let k = read-checked e u s f d (Refused Linkable) late-linkable h in
+        let w = read-linkable e u s f d k .0 h in
+        (k, w .0, w .1),
+    λ r. read-linkable e u s f d (r .0) .1 (r .1, r .2),
+  );
+  granted = (
+    λ h.
+        let k = read-checked e u s f d Granted late-granted h in
+        let w = read-granted e u s f d k .0 h in
+        (k, w .0, w .1),
+    λ r. read-granted e u s f d (r .0) .1 (r .1, r .2),
+  );
+}
 
 -- ---- a fresh engine: "256 user versions of zero, system version 0, empty tables and no open session"
 

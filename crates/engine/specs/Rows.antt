@@ -21,9 +21,9 @@ abbrev pub refuse : Bool → Refusal → Verdict → Verdict
 refuse true why later = Refused why
 refuse false why later = later
 
--- a chosen role that isn't conflicting
-unfoldable pub outside : ℕ → ℕ → Bool
-outside chosen conflicting = some roleCount (λ r. has chosen r && not (has conflicting r))
+-- a chosen role that isn't conflicting, where there are nr roles
+unfoldable pub outside : ℕ → ℕ → ℕ → Bool
+outside nr chosen conflicting = some nr (λ r. has chosen r && not (has conflicting r))
 
 -- a new version is due, to the holders of r, and there is none left
 unfoldable pub spent : List ℕ → ℕ → ℕ → Bool
@@ -90,7 +90,7 @@ addRows opened counts conflicting s root chosen =
     (refuse (leb (2 ^ roleCount) chosen) AboveLimit
     (refuse (not (has opened s)) NotOpen
     (refuse (leb flowCount (getD counts s 0)) SessionFull
-    (refuse (outside chosen conflicting) NotConflicting Granted)))))
+    (refuse (outside roleCount chosen conflicting) NotConflicting Granted)))))
 
 -- 0a, and the first checks of 09: rows 2, 6, 10
 unfoldable pub flowRows : ℕ → List ℕ → ℕ → ℕ → Verdict → Verdict
@@ -106,7 +106,7 @@ readRows roles readers versions reach c u d =
     refuse (not (has reach d)) OutOfReach
     (refuse (not (meeting roleCount (getD roles u 0) (getD readers d 0))) NoPermission
     (refuse (ltb (c .version) (getD versions u 0)) Changed
-    (refuse (linkable (getD roles u 0) c) Linkable Granted)))
+    (refuse (linkable roleCount flowCount (getD roles u 0) c) Linkable Granted)))
 
 -- 09: rows 2, 6, 10, then those of the flow
 unfoldable pub readVerdict : List ℕ → List ℕ → List ℕ → ℕ → List ℕ → List ℕ → Constraint → ℕ → ℕ → ℕ → ℕ → Verdict

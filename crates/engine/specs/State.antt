@@ -56,21 +56,21 @@ anyFlow counts = some sessionCount (λ s. ltb 0 (getD counts s 0))
 unfoldable pub reachWith : List ℕ → ℕ → ℕ → ℕ → ℕ → ℕ
 reachWith reaches s n new g = cond (ltb g n) (getD reaches (place s g) 0) new
 
--- ---- conflicts
+-- ---- conflicts: nr, nu, nd and nf are how many roles, users, databases and flows there are, here and below
 
 -- user u "may statically read at least two" of n flows, whose reaches are `reachOf 0` to `reachOf (n - 1)`
-unfoldable pub readsTwo : List ℕ → List ℕ → ℕ → (ℕ → ℕ) → ℕ → Bool
-readsTwo roles readers n reachOf u = leb 2 (count n (λ g. staticallyReads roleCount databaseCount roles readers u (reachOf g)))
+unfoldable pub readsTwo : ℕ → ℕ → List ℕ → List ℕ → ℕ → (ℕ → ℕ) → ℕ → Bool
+readsTwo nr nd roles readers n reachOf u = leb 2 (count n (λ g. staticallyReads nr nd roles readers u (reachOf g)))
 
 -- the conflicting roles: "some user holds c and may statically read at least two of its flows"
-unfoldable pub conflicts : List ℕ → List ℕ → ℕ → (ℕ → ℕ) → ℕ
-conflicts roles readers n reachOf = setOf roleCount (λ c. some userCount (λ u. there roles u c && readsTwo roles readers n reachOf u))
+unfoldable pub conflicts : ℕ → ℕ → ℕ → List ℕ → List ℕ → ℕ → (ℕ → ℕ) → ℕ
+conflicts nr nu nd roles readers n reachOf = setOf nr (λ c. some nu (λ u. there roles u c && readsTwo nr nd roles readers n reachOf u))
 
 -- the conflicting roles of session s with a flow of this root counted in
 unfoldable pub conflictsIn : List ℕ → List ℕ → List ℕ → List ℕ → List ℕ → ℕ → ℕ → ℕ
 conflictsIn roles readers forwards counts reaches s root =
     let n : ℕ = getD counts s 0 in
-    conflicts roles readers (suc n) (reachWith reaches s n (reach databaseCount forwards root))
+    conflicts roleCount userCount databaseCount roles readers (suc n) (reachWith reaches s n (reach databaseCount forwards root))
 
 unfoldable pub conflictsWith : Engine → ℕ → ℕ → ℕ
 conflictsWith e s root = conflictsIn (e .directory .tables .roles) (e .directory .tables .readers) (e .directory .tables .forwards) (e .sessions .counts) (e .sessions .reaches) s root
@@ -78,8 +78,8 @@ conflictsWith e s root = conflictsIn (e .directory .tables .roles) (e .directory
 -- ---- constraints
 
 -- a role set: "the roles that may, at this addition, read a database in that flow's reach and are a parent of some role in the deny set"
-unfoldable pub roleSet : List ℕ → List ℕ → ℕ → ℕ → ℕ
-roleSet roles readers deny reach = shared roleCount (readersOf roleCount databaseCount readers reach) (parentsOf roleCount userCount roles deny)
+unfoldable pub roleSet : ℕ → ℕ → ℕ → List ℕ → List ℕ → ℕ → ℕ → ℕ
+roleSet nr nu nd roles readers deny reach = shared nr (readersOf nr nd readers reach) (parentsOf nr nu roles deny)
 
 -- "the previous flow's deny set (empty for flow 0)": n flows are there
 unfoldable pub denyBefore : List Constraint → ℕ → ℕ → ℕ
@@ -95,14 +95,14 @@ newConstraint D S s root chosen =
     record {
       version = D .version;
       deny = deny;
-      roles = listOf flowCount (λ g. cond (leb g n) (roleSet (D .tables .roles) (D .tables .readers) deny (reachWith (S .reaches) s n new g)) 0);
+      roles = listOf flowCount (λ g. cond (leb g n) (roleSet roleCount userCount databaseCount (D .tables .roles) (D .tables .readers) deny (reachWith (S .reaches) s n new g)) 0);
     }
 
 -- ---- the verdict on a read
 
 -- "u holds a role of f's deny set and u's roles meet at least two of f's role sets": `held` is the set of u's roles
-unfoldable pub linkable : ℕ → Constraint → Bool
-linkable held c = meeting roleCount held (c .deny) && leb 2 (count flowCount (λ g. meeting roleCount held (getD (c .roles) g 0)))
+unfoldable pub linkable : ℕ → ℕ → ℕ → Constraint → Bool
+linkable nr nf held c = meeting nr held (c .deny) && leb 2 (count nf (λ g. meeting nr held (getD (c .roles) g 0)))
 
 -- ---- versions
 

@@ -197,7 +197,7 @@ pub fn show(opened: u64, counts: &[usize; Engine::SESSIONS], s: usize, f: usize)
 
 // Whether some chosen role isn't conflicting.
 fn outside(chosen: u64, conflicting: u64) -> bool
-    ensures { λ b. ⌜ b ≡ outside chosen conflicting ⌝ }
+    ensures { λ b. ⌜ b ≡ outside 64 chosen conflicting ⌝ }
 {
     sets::difference(chosen, conflicting) != 0
 }
@@ -228,7 +228,7 @@ pub fn add<'a>(
 
 // Whether a reader of these roles meets a constraint's deny set and two of its role sets.
 fn links(held: u64, c: Constraint) -> bool
-    ensures { λ b. ⌜ b ≡ linkable held c ⌝ }
+    ensures { λ b. ⌜ b ≡ linkable 64 8 held c ⌝ }
 {
     if !sets::meets(held, c.deny) {
         return false;

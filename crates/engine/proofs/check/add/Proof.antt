@@ -17,12 +17,12 @@ conflicts-with-requires c κs = (passes c .session, passes c .room)
 
 returns-2 : tie.Need-returns-2
 returns-2 c =
-    met _ _ (ap (outside _) (sym (c .before .before .conflicts-with .ensures)) ∙ sym (c .before .outside .ensures) ∙ c .if1 .taken)
+    met _ _ (ap (outside _ _) (sym (c .before .before .conflicts-with .ensures)) ∙ sym (c .before .outside .ensures) ∙ c .if1 .taken)
     ∙ sym (add-clear _ _ _ _ _ _ (c .before .before .before .before .before .before .fits .chosen .fits) (passes (c .before .before .before)))
 
 returns-3 : tie.Need-returns-3
 returns-3 c =
-    past _ (ap (outside _) (sym (c .before .before .conflicts-with .ensures)) ∙ sym (c .before .outside .ensures) ∙ c .if1 .left) refl
+    past _ (ap (outside _ _) (sym (c .before .before .conflicts-with .ensures)) ∙ sym (c .before .outside .ensures) ∙ c .if1 .left) refl
     ∙ sym (add-clear _ _ _ _ _ _ (c .before .before .before .before .before .before .fits .chosen .fits) (passes (c .before .before .before)))
 
 pub add-spec : {M : Type 1} → statement M
