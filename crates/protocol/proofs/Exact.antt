@@ -101,7 +101,7 @@ number-told e c k = number e c ∙ go c
 
 -- the role set for flow g that goes by flow f's deny set is the ledger's
 role-set-seen : (e : Engine) (s f g : ℕ) → f < getD (e .sessions .counts) s 0 → g < getD (e .sessions .counts) s 0
-    → roleSet (e .directory .tables .roles) (e .directory .tables .readers) (constraintAt (e .sessions .constraints) s f .deny) (getD (e .sessions .reaches) (place s g) 0)
+    → roleSet 64 256 64 (e .directory .tables .roles) (e .directory .tables .readers) (constraintAt (e .sessions .constraints) s f .deny) (getD (e .sessions .reaches) (place s g) 0)
     ≡ setOf 64 (inRoleSet (seen e) (flowOf (seen e) s f) (flowOf (seen e) s g))
 unfolding roleSet shared parentsOf image overlaps inRoleSet isParent flowSeen
 role-set-seen e s f g l m =
@@ -189,7 +189,7 @@ module _ (e : Engine) (sets : ℕ → ℕ → ℕ → ℕ → Bool) (z : Sized e
   unfolding n call put
   new-roles g l =
       stored .roles-of g l
-      ∙ ap (λ (D : Directory). roleSet (D .tables .roles) (D .tables .readers) (constraintAt (put .sessions .constraints) s n .deny) (getD (put .sessions .reaches) (place s g) 0)) (sym (stored .directory))
+      ∙ ap (λ (D : Directory). roleSet 64 256 64 (D .tables .roles) (D .tables .readers) (constraintAt (put .sessions .constraints) s n .deny) (getD (put .sessions .reaches) (place s g) 0)) (sym (stored .directory))
       ∙ role-set-seen put s n g (omega (arith, stored .counted)) (omega (arith, stored .counted))
       ∙ ap (λ (m : Ledger). setOf 64 (inRoleSet m (flowOf m s n) (flowOf m s g))) now
       ∙ ap (setOf 64) (sym (new-sets e sets call s n g (omega arith) (rw (← now, length-flows put s) (omega (arith, stored .counted)))))
