@@ -3,8 +3,9 @@
 #
 # CPU time (user and system) of PROGRAM and of the model on a list of reads and
 # a mixed list of LINES lines (1000000), in turn, RUNS runs each (9); medians
-# and their ratio.  Then what one read costs as users, roles, flows and
-# sessions in use grow.  MODEL names a model that is built already; SEED gives
+# and their ratio.  Then the user time for a peer that sends one frame and
+# waits for its answer before it sends the next (PEER frames, 200000), and what
+# one read costs as users, roles, flows and sessions in use grow.  MODEL names a model that is built already; SEED gives
 # other lists.  From the root of the repository:
 #     reference/measure.sh target/bin/linkage
 set -u
@@ -68,6 +69,38 @@ for kind in ("reads", "mixed"):
         print("   %s %.4f s, %.1f million lines/s" % (n, m[n], count / max(m[n], 1e-9) / 1e6), end="")
     print("   program/model %.2f" % (m["program"] / max(m["model"], 1e-9)))
     sys.stdout.flush()
+
+
+# One frame at a time: each is a piece of input of its own.  Only user time is
+# compared, since nearly all the rest is the system's pipes.
+def peer(command, frames):
+    p = subprocess.Popen(command, stdin=subprocess.PIPE, stdout=subprocess.PIPE, bufsize=0)
+    put, got = p.stdin.fileno(), p.stdout.fileno()
+    for line in (b"010100\n", b"030000\n", b"0600\n", b"0800000000000000000000\n"):
+        os.write(put, line)
+        os.read(got, 64)
+    for _ in range(frames):
+        os.write(put, b"0901000000\n")
+        if os.read(got, 64) != b"00\n":
+            sys.exit("%s answers a waiting peer wrongly" % command[0])
+    p.stdin.close()
+    _, status, use = os.wait4(p.pid, 0)
+    p.returncode = status
+    p.stdout.close()
+    return use.ru_utime, use.ru_stime
+
+
+frames = int(os.environ.get("PEER", "200000"))
+waits = {n: [] for n, _ in programs}
+for i in range(5):
+    for n, command in programs:
+        waits[n].append(peer(command, frames))
+print("peer   %d frames, each answered before the next" % frames, end="")
+user = {n: statistics.median(t[0] for t in waits[n]) for n, _ in programs}
+for n, _ in programs:
+    print("   %s %.4f s user, %.4f s system" % (n, user[n], statistics.median(t[1] for t in waits[n])), end="")
+print("   user time, program/model %.2f" % (user["program"] / max(user["model"], 1e-9)))
+sys.stdout.flush()
 
 
 # Reads alone, all granted, of the flow added last (one user) or of all flows

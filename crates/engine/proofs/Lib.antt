@@ -1,15 +1,1 @@
-pub mod Checks
-pub mod Lists
-pub mod Versions
-pub mod SearchLaws
-pub mod Replies
-pub mod Invariants
-pub mod Links
-pub mod Ledgers
-pub mod SeenRows
-pub mod SeenChanges
-pub mod Seen
-pub mod Demands
-pub mod Steps
-pub mod Additions
-pub mod Lasting
+pub mod Answers

@@ -1,27 +1,33 @@
 -- The end of input: the last line, and a whole run in one buffer.
 -- Assumes nothing.
-use Prim.Native.Nat.{ℕ, zero, suc, _+_, _-_, _≤_, _<_, min}
-use mathlib.Core.Path.{_≡_, refl, sym, ap, _∙_}
-use mathlib.Core.Bool.{Bool, true, false, cond, _&&_}
+use Prim.Native.Nat.{ℕ, zero, suc, _+_, _-_, _≤_, _<_}
+use mathlib.Core.Path.{_≡_, refl, sym, ap, subst, _∙_}
+use mathlib.Core.Bool.{Bool, true, false, cond}
 use mathlib.Core.List.{List, [], _∷_, _++_, append-nil, append-assoc}
+use native.Mathlib.Decide.{decLt}
 use native.Mathlib.Numerals.{add-one}
 use native.Mathlib.Omega.{arith}
 use lib.Dec.{eqb, leb}
-use lib.ListN.{length, set, take, drop, length-append, length-take, length-drop, take-append-drop}
+use lib.ListN.{length, set, take, drop, replicate, length-append, length-drop, take-append-drop}
 use lib.Seq.{take-at, drop-at, drop-drop}
-use borrow.Author.Tests.{le-leb, lt-leb, le-ltb, eqb-true, eqb-false}
-use Rattle.engine.specs.declared.Engine.{Engine}
-use Rattle.engine.specs.State.{fresh}
-use Rattle.engine.specs.Calls.{numberOf, verdict, answerOf, answer, after}
+use borrow.Author.Tests.{le-leb, lt-leb, eq-eqb, ne-eqb}
+use Rattle.model.specs.declared.Engine.{Engine}
+use Rattle.model.specs.declared.calls.Call.{Call}
+use Rattle.tables.specs.Tables.{userCount, databaseCount}
+use Rattle.tables.specs.Tables.{fresh as emptyTables}
+use Rattle.model.specs.Limits.{sessionCount}
+use Rattle.model.specs.State.{placeCount, roleSetCount}
+use Rattle.model.specs.State.{tablesOf, directoryOf, sessionsOf, engineOf, fresh}
+use Rattle.model.specs.Calls.{numberOf, returned, verdictOf, step, answer, after}
+use Rattle.protocol.specs.Widths.{longest}
+use Rattle.protocol.specs.Digits.{glyph, hex}
+use Rattle.protocol.specs.Lines.{callOf, values, lineOf, lineFeed}
+use Rattle.protocol.specs.Run.{lastCall, reply, replies, run, Fed, wrote, fed, feedAt, finish, shownIn}
+use Rattle.protocol.proofs.Laws.{more, run-more, more-end, more-line, feedAt-le, feed-there, no-feed-of, no-feed-before, no-more, one-line, fed-run, fed-left, fed-fits}
 use Rattle.frames.specs.declared.write.Line.{Line}
 use Rattle.frames.specs.declared.write.Line.the-variants.{Written, NoRoom}
-use Rattle.protocol.specs.Digits.{glyph, hex}
-use Rattle.protocol.specs.Lines.{callOf, values, returnedBy, lineOf, lineFeed}
-use Rattle.protocol.specs.Run.{lastCall, reply, replies, run, push, longest, Fed, wrote, feed, finish}
-use Rattle.frames.specs.Written.{Wrote}
-use Rattle.frames.specs.Stream.{engineIn, lineIn, Feeds, ending, fits, endAnswer, endWritten, takesWhole, ranOutput, Ran}
 use Rattle.frames.specs.declared.stream.Fed.{Fed as Given}
-use Rattle.protocol.proofs.Laws.{NoFeed, none, no-feed-push, more, run-more, more-end, more-feed, more-byte, feed-none, feed-feed, feed-byte, fed-by, fed-run, fed-no-feed, fed-fits}
+use Rattle.frames.specs.Stream.{Feeds, ending, endAnswer, endWritten, takesWhole, ranOutput, Ran}
 use Rattle.frames.proofs.Writing.{wrote-stores}
 
 abbrev Ended : List ℕ → List ℕ → ℕ → List ℕ → Line → Type 0
@@ -53,11 +59,10 @@ ended-line old len at q l h =
     add-two n = omega arith
 
 -- what the machine still writes at the end
-pub finish-ending : (e : Engine) (n : ℕ) (line : List ℕ) → length line ≡ 23 → finish e (take n line) ≡ ending n
-unfolding finish lastCall replies reply answer answerOf verdict lineOf values returnedBy numberOf hex glyph ending
-finish-ending e zero line l = refl
-finish-ending e (suc n) (b ∷ line) l = refl
-finish-ending e (suc n) [] l = absurd (omega arith)
+finish-ending : (e : Engine) (line : List ℕ) → finish e line ≡ ending (length line)
+unfolding finish lastCall replies reply answer step shownIn verdictOf lineOf values returned numberOf hex glyph ending
+finish-ending e [] = refl
+finish-ending e (b ∷ line) = refl
 
 -- ---- a whole run
 
@@ -78,115 +83,127 @@ whole-put first last old new l q = (
     rest : drop (length first + length last) new ≡ drop (length first + length last) old
     rest = sym (drop-drop (length last) (length first) new) ∙ ap (drop (length last)) back ∙ drop-drop (length last) (length first) old
 
--- a run that is fed whole is what was written and the end
-run-fed : (room : ℕ) (input : List ℕ) → feed room fresh [] input .left ≡ [] → run input ≡ feed room fresh [] input .written ++ finish (feed room fresh [] input .engine) (feed room fresh [] input .line)
+-- a run of which every whole line is taken is what was written and the end
+run-fed : (room : ℕ) (input : List ℕ) → feedAt (fed room fresh input .left) ≡ length (fed room fresh input .left)
+    → run input ≡ fed room fresh input .written ++ ending (length (fed room fresh input .left))
 run-fed room input q =
     run-more input
-    ∙ fed-run room fresh [] input none
-    ∙ ap (λ (left : List ℕ). feed room fresh [] input .written ++ more (feed room fresh [] input .engine) (feed room fresh [] input .line) left) q
-    ∙ ap (λ (bytes : List ℕ). feed room fresh [] input .written ++ bytes) (more-end (feed room fresh [] input .engine) (feed room fresh [] input .line) (fed-no-feed room fresh [] input none))
-
--- no more is left than there was
-fed-left : (room : ℕ) (e : Engine) (line bytes : List ℕ) → NoFeed line → length (feed room e line bytes .left) ≤ length bytes
-unfolding wrote
-fed-left = fed-by (λ m d l p x. length (x .left) ≤ length p) (λ m d l p h. omega arith) (λ m d l p x k h r. omega arith) (λ m d l c p x h n r. omega arith)
-
-nil : (xs : List ℕ) → length xs ≡ 0 → xs ≡ []
-nil [] l = refl
-nil (x ∷ xs) l = absurd (omega arith)
-
-pub fed-fresh : (chunk old new : List ℕ) (e : Engine) (line : List ℕ) (f : Given) → e ≡ fresh → line ≡ [] → Feeds chunk old new (feed (length old) e line chunk) f → Feeds chunk old new (feed (length old) fresh [] chunk) f
-fed-fresh chunk old new e line f p q g = rw (p, q) at g
-
--- what was written stands in the buffer
-pub fed-place : (input old new : List ℕ) (f : Given) → Feeds input old new (feed (length old) fresh [] input) f → f .written ≤ length new
-fed-place input old new f g =
-    let l = fed-fits (length old) fresh [] input none in
-    omega (arith, g .written, whole-put (feed (length old) fresh [] input .written) [] old new l (g .output) .0)
+    ∙ fed-run room fresh input
+    ∙ ap (λ (bytes : List ℕ). fed room fresh input .written ++ bytes) (more-end (fed room fresh input .engine) (fed room fresh input .left) (no-feed-of (fed room fresh input .left) q) ∙ finish-ending (fed room fresh input .engine) (fed room fresh input .left))
 
 -- the run begins with what stands in the buffer
 begins-with : (input : List ℕ) (room : ℕ) → (rest : List ℕ) × (run input ≡ ranOutput input room ++ rest)
 unfolding ranOutput
 begins-with input room = go (takesWhole input room)
   where
-    x : Fed
-    x = feed room fresh [] input
-
-    go : (t : Bool) → (rest : List ℕ) × (run input ≡ cond t (run input) (x .written) ++ rest)
+    go : (t : Bool) → (rest : List ℕ) × (run input ≡ cond t (run input) (fed room fresh input .written) ++ rest)
     go true = ([], sym (append-nil (run input)))
-    go false = (more (x .engine) (x .line) (x .left), run-more input ∙ fed-run room fresh [] input none)
-
--- not all of it was taken
-pub ran-short : (input old new : List ℕ) (f : Given) → Feeds input old new (feed (length old) fresh [] input) f → f .consumed < length input → Ran input old new NoRoom
-unfolding takesWhole ranOutput
-ran-short input old new f g h = record { answer = rw some; output = rw some (g .output); begins = begins-with input (length old) }
-  where
-    some : leb (length (feed (length old) fresh [] input .left)) 0 ≡ false
-    some = lt-leb (length (feed (length old) fresh [] input .left)) 0 (omega (arith, g .consumed))
-
--- all of it was
-pub ran-end : (input old new out : List ℕ) (f : Given) (r : Line) → length (f .stream .line) ≡ 23 → Feeds input old new (feed (length old) fresh [] input) f → length input ≤ f .consumed
-    → r ≡ endAnswer new (f .written) (ending (f .stream .len)) → out ≡ endWritten new (f .written) (ending (f .stream .len)) → Ran input old out r
-unfolding takesWhole ranOutput endAnswer endWritten engineIn lineIn
-ran-end input old new out f r n g h a o =
-    record {
-      answer = a ∙ rw (g .written, put .0, none-left, whole, length-append (x .written) last);
-      output = o ∙ rw (g .written, put .0, none-left, whole, length-append (x .written) last) (by (leb (length (x .written) + length last) (length old)));
-      begins = begins-with input (length old);
-    }
-  where
-    x : Fed
-    x = feed (length old) fresh [] input
-
-    last : List ℕ
-    last = ending (f .stream .len)
-
-    none-left : x .left ≡ []
-    none-left = nil (x .left) (omega (arith, g .consumed, fed-left (length old) fresh [] input none))
-
-    fitting : length (x .written) ≤ length old
-    fitting = fed-fits (length old) fresh [] input none
-
-    put : (length new ≡ length old) × (take (length (x .written)) new ++ (last ++ drop (length (x .written) + length last) new) ≡ (x .written ++ last) ++ drop (length (x .written) + length last) old)
-    put = whole-put (x .written) last old new fitting (g .output)
-
-    whole : run input ≡ x .written ++ last
-    whole = run-fed (length old) input none-left ∙ ap (λ (bytes : List ℕ). x .written ++ bytes) (rw (sym (g .engine), sym (g .line)) (finish-ending (engineIn (f .stream)) (f .stream .len) (f .stream .line) n))
-
-    -- the end fits, or the buffer stays as it was
-    by : (t : Bool)
-        → cond t (take (length (x .written)) new ++ (last ++ drop (length (x .written) + length last) new)) new
-        ≡ cond t (x .written ++ last) (x .written) ++ drop (length (cond t (x .written ++ last) (x .written))) old
-    by true = put .1 ∙ rw (length-append (x .written) last)
-    by false = g .output
+    go false = (more (fed room fresh input .engine) (fed room fresh input .left), run-more input ∙ fed-run room fresh input)
 
 -- ---- how much room is enough
 
-all-taken : (room : ℕ) (e : Engine) (line bytes : List ℕ) → NoFeed line → length (more e line bytes) + longest ≤ room → feed room e line bytes .left ≡ []
-unfolding wrote
-all-taken room e line [] h l = rw (feed-none room e line)
-all-taken room e line (b ∷ bytes) h l =
-    go (eqb b lineFeed) refl
-    (λ m. all-taken (room - length (reply e (callOf line))) (after e (callOf line)) [] bytes none m)
-    (λ n m. all-taken room e (push line b) bytes (no-feed-push h n) m)
-  where
-    answered : List ℕ
-    answered = reply e (callOf line)
+none-taken : (room : ℕ) (e : Engine) (bytes : List ℕ) → feedAt bytes ≡ length bytes → feedAt (fed room e bytes .left) ≡ length (fed room e bytes .left)
+none-taken room e bytes q = rw (no-more room e bytes q) q
 
-    go : (t : Bool) → eqb b lineFeed ≡ t
-        → (length (more (after e (callOf line)) [] bytes) + longest ≤ room - length answered → feed (room - length answered) (after e (callOf line)) [] bytes .left ≡ [])
-        → ((b ≡ lineFeed → ⊥) → length (more e (push line b) bytes) + longest ≤ room → feed room e (push line b) bytes .left ≡ [])
-        → feed room e line (b ∷ bytes) .left ≡ []
-    go true t next later =
-        let at : b ≡ lineFeed = eqb-true b lineFeed t in
-        let long : length (more e line (lineFeed ∷ bytes)) ≡ length answered + length (more (after e (callOf line)) [] bytes) = ap length (more-feed e line bytes h) ∙ length-append answered _ in
-        let m : length (more e line (lineFeed ∷ bytes)) + longest ≤ room = rw (sym at) l in
-        rw (at, feed-feed room e line bytes, le-ltb room longest (omega arith)) (next (omega arith))
-    go false t next later =
-        let n = eqb-false b lineFeed t in
-        rw (feed-byte room e line b bytes n) (later n (rw (sym (more-byte e line b bytes h n)) l))
+one-taken : (room : ℕ) (e : Engine) (bytes answered : List ℕ) (x : Fed) → fed room e bytes ≡ wrote answered x → feedAt (x .left) ≡ length (x .left) → feedAt (fed room e bytes .left) ≡ length (fed room e bytes .left)
+unfolding wrote
+one-taken room e bytes answered x q h = rw q h
+
+all-taken : (n room : ℕ) (e : Engine) (bytes : List ℕ) → length bytes ≤ n → length (more e bytes) + longest ≤ room → feedAt (fed room e bytes .left) ≡ length (fed room e bytes .left)
+all-taken zero room e bytes l r = none-taken room e bytes (omega (arith, feedAt-le bytes))
+all-taken (suc n) room e bytes l r = go (decLt (feedAt bytes) (length bytes)) (λ m d b k s. all-taken n m d b k s)
+  where
+    go : Dec (feedAt bytes < length bytes)
+        → ((m : ℕ) (d : Engine) (b : List ℕ) → length b ≤ n → length (more d b) + longest ≤ m → feedAt (fed m d b .left) ≡ length (fed m d b .left))
+        → feedAt (fed room e bytes .left) ≡ length (fed room e bytes .left)
+    go (no h) f = none-taken room e bytes (omega (arith, feedAt-le bytes))
+    go (yes h) f =
+        let line : List ℕ = take (feedAt bytes) bytes in
+        let c : Call = callOf line in
+        let rest : List ℕ = drop (0 + feedAt bytes + 1) bytes in
+        let z : suc (feedAt bytes) ≡ 0 + feedAt bytes + 1 = omega arith in
+        let there : bytes ≡ line ++ (lineFeed ∷ rest) = feed-there bytes h ∙ ap (λ (n : ℕ). line ++ (lineFeed ∷ drop n bytes)) z in
+        let long : length (more e bytes) ≡ length (reply e c) + length (more (after e c) rest) = ap (λ (b : List ℕ). length (more e b)) there ∙ ap length (more-line e line rest (no-feed-before bytes)) ∙ length-append (reply e c) (more (after e c) rest) in
+        let m : 0 + feedAt bytes < length bytes = omega arith in
+        one-taken room e bytes (reply e c) (fed (room - length (reply e c)) (after e c) rest) (one-line room e bytes 0 m (omega arith))
+        (f (room - length (reply e c)) (after e c) rest (omega (arith, length-drop (0 + feedAt bytes + 1) bytes)) (omega arith))
 
 -- a run fits where there is room for the longest answer behind it
-pub roomy : (input : List ℕ) (room : ℕ) → length (run input) + longest ≤ room → takesWhole input room ≡ true
+room-enough : (input : List ℕ) (room : ℕ) → length (run input) + longest ≤ room → takesWhole input room ≡ true
 unfolding takesWhole
-roomy input room l = rw (all-taken room fresh [] input none (rw (sym (run-more input)) l), le-leb (length (run input)) room (omega arith))
+room-enough input room l =
+    let q = all-taken (length input) room fresh input (omega arith) (rw run-more at l) in
+    rw (eq-eqb (feedAt (fed room fresh input .left)) (length (fed room fresh input .left)) q) (le-leb (length (run input)) room (omega arith))
+
+-- ---- what is fed of the whole input, and its end behind it
+
+-- arrays of zeros are a fresh engine
+abbrev zeros : Engine
+zeros =
+    engineOf (directoryOf (tablesOf (replicate userCount 0) (replicate databaseCount 0) (replicate databaseCount 0)) (replicate userCount 0) 0)
+    (sessionsOf 0 (replicate sessionCount 0) (replicate placeCount 0) (replicate placeCount 0) (replicate placeCount 0) (replicate placeCount 0) (replicate roleSetCount 0))
+
+is-fresh : zeros ≡ fresh
+unfolding fresh emptyTables
+is-fresh = refl
+
+pub from-fresh : {input old new : List ℕ} {e : Engine} {f : Given} → Feeds input old new e (fed (length old) zeros input) f → Feeds input old new e (fed (length old) fresh input) f
+from-fresh {input} {old} {new} {e} {f} g = subst (λ (e₀ : Engine). Feeds input old new e (fed (length old) e₀ input) f) is-fresh g
+
+abbrev fedIn : List ℕ → List ℕ → Fed
+fedIn input old = fed (length old) fresh input
+
+module _ (input old new : List ℕ) (e : Engine) (f : Given) (g : Feeds input old new e (fed (length old) fresh input) f) where
+  pub taken-within : f .consumed ≤ length input
+  taken-within = omega (arith, g .consumed)
+
+  -- what was written stands in the buffer
+  pub fed-place : f .written ≤ length new
+  fed-place =
+      let l = fed-fits (length old) fresh input in
+      omega (arith, g .written, whole-put (fedIn input old .written) [] old new l (g .output) .0)
+
+  left-long : length (fedIn input old .left) ≡ length input - f .consumed
+  left-long = omega (arith, g .consumed, fed-left (length old) fresh input .0)
+
+  left-here : fedIn input old .left ≡ drop (f .consumed) input
+  left-here = fed-left (length old) fresh input .1 ∙ ap (λ (n : ℕ). drop n input) (sym (g .consumed))
+
+  -- not every whole line was taken
+  pub ran-short : (at : ℕ) → at ≡ f .consumed + feedAt (drop (f .consumed) input) → at < length input → Ran input old new NoRoom
+  unfolding takesWhole ranOutput
+  ran-short at p h = record { answer = rw some; output = rw some (g .output); begins = begins-with input (length old); roomy = room-enough input (length old) }
+    where
+      some : eqb (feedAt (fedIn input old .left)) (length (fedIn input old .left)) ≡ false
+      some = ne-eqb (feedAt (fedIn input old .left)) (length (fedIn input old .left)) (λ q. omega (arith, p, q, left-long, ap feedAt left-here))
+
+  -- all of them were
+  pub ran-end : (at : ℕ) (out : List ℕ) (r : Line) → at ≡ f .consumed + feedAt (drop (f .consumed) input) → length input ≤ at
+      → r ≡ endAnswer new (f .written) (ending (length input - f .consumed)) → out ≡ endWritten new (f .written) (ending (length input - f .consumed)) → Ran input old out r
+  unfolding takesWhole ranOutput endAnswer endWritten
+  ran-end at out r p h a o =
+      record {
+        answer = a ∙ rw (g .written, put .0, eq-eqb (feedAt (fedIn input old .left)) (length (fedIn input old .left)) all, whole, length-append (fedIn input old .written) last);
+        output = o ∙ rw (g .written, put .0, eq-eqb (feedAt (fedIn input old .left)) (length (fedIn input old .left)) all, whole, length-append (fedIn input old .written) last) (by (leb (length (fedIn input old .written) + length last) (length old)));
+        begins = begins-with input (length old);
+        roomy = room-enough input (length old);
+      }
+    where
+      last : List ℕ
+      last = ending (length input - f .consumed)
+
+      all : feedAt (fedIn input old .left) ≡ length (fedIn input old .left)
+      all = omega (arith, p, left-long, ap feedAt left-here, feedAt-le (fedIn input old .left))
+
+      put : (length new ≡ length old) × (take (length (fedIn input old .written)) new ++ (last ++ drop (length (fedIn input old .written) + length last) new) ≡ (fedIn input old .written ++ last) ++ drop (length (fedIn input old .written) + length last) old)
+      put = whole-put (fedIn input old .written) last old new (fed-fits (length old) fresh input) (g .output)
+
+      whole : run input ≡ fedIn input old .written ++ last
+      whole = run-fed (length old) input all ∙ rw left-long
+
+      -- the end fits, or the buffer stays as it was
+      by : (t : Bool)
+          → cond t (take (length (fedIn input old .written)) new ++ (last ++ drop (length (fedIn input old .written) + length last) new)) new
+          ≡ cond t (fedIn input old .written ++ last) (fedIn input old .written) ++ drop (length (cond t (fedIn input old .written ++ last) (fedIn input old .written))) old
+      by true = put .1 ∙ rw (length-append (fedIn input old .written) last)
+      by false = g .output

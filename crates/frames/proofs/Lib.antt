@@ -1,6 +1,7 @@
 pub mod Reading
+pub mod Lines
 pub mod Writing
-pub mod Streams
+pub mod Answering
+pub mod Keeping
 pub mod Feeding
 pub mod Endings
-pub mod Stepping

@@ -1,36 +1,34 @@
--- The laws of what is written: how two writes make one, how long digits and lines are, and what a loop over digits keeps.
+-- The laws of what is written: how two writes make one, what a loop over digits keeps, and the parts of a line.
 -- Nothing here has to be read to understand a contract.
 -- Assumes nothing.
-use Prim.Native.Nat.{ℕ, zero, suc, _+_, _*_, _/_, _%_, _≤_, _<_}
-use mathlib.Core.Path.{_≡_, refl, sym, ap, _∙_}
-use mathlib.Core.Bool.{true, false, not}
+use Prim.Native.Nat.{ℕ, suc, _+_, _*_, _/_, _%_, _≤_, _<_}
+use mathlib.Core.Path.{_≡_, refl, sym, ap, _∙_, subst}
+use mathlib.Core.Bool.{true, false}
 use mathlib.Core.List.{List, [], _∷_, _++_, append-assoc, append-nil}
 use native.Mathlib.Nat.{add-zero, zero-add}
 use native.Mathlib.Numerals.{add-one}
 use native.Mathlib.Omega.{arith}
-use lib.Dec.{leb}
+use lib.Dec.{leb, ltb}
 use lib.ListN.{length, getD, take, drop, set, length-append, length-drop, length-set, take-append-drop}
 use lib.Seq.{sets, sets-eq, length-take-le, take-at, drop-at, take-suc, drop-drop, set-at}
-use borrow.Author.Tests.{le-leb, lt-leb, leb-false}
-use Rattle.engine.specs.declared.Constraint.{Constraint}
-use Rattle.engine.specs.declared.calls.Answer.{Answer}
-use Rattle.engine.specs.declared.calls.Answer.the-variants.{Version, Roles, Flow, Granted, Constraint as Answer·Constraint, Refused}
-use Rattle.engine.specs.declared.Engine.{Engine}
-use Rattle.engine.specs.declared.calls.Call.{Call}
-use Rattle.engine.specs.declared.calls.Call.the-variants.{Assign, Withdraw, Permit, Revoke, Forward, Open, Conflicting, Add, Read, Show, Unreadable}
-use Rattle.engine.specs.declared.calls.Verdict.{Verdict}
-use Rattle.engine.specs.declared.calls.Verdict.the-variants.{Granted as Verdict·Granted, Refused as Verdict·Refused}
-use Rattle.engine.specs.declared.calls.Refusal.the-variants.{AboveLimit, NotOpen, NoSuchFlow}
-use Rattle.sets.specs.Sets.{has}
-use Rattle.engine.specs.State.{sessionCount, flowCount}
-use Rattle.engine.specs.Rows.{refuse, flowRows}
-use Rattle.engine.specs.Calls.{verdict, accepted, answerOf, answer}
-use Rattle.engine.proofs.Checks.{passed}
+use borrow.Author.Tests.{le-leb, lt-leb, lt-ltb, le-ltb}
+use denote.Enum.Declared.{tagOf}
+use types.Run.{OneOf, miss}
+use Rattle.model.proofs.calls.Answer.{the-type}
+use Rattle.model.specs.declared.Constraint.{Constraint}
+use Rattle.model.specs.declared.calls.Answer.{Answer}
+use Rattle.model.specs.declared.calls.Answer.the-variants.{Version, Roles, Flow, Granted, Constraint as Answer·Constraint, Refused}
+use Rattle.model.specs.Limits.{sessionCount, flowCount}
+use Rattle.model.specs.State.{placeCount}
+use Rattle.model.specs.State.{place}
+use Rattle.model.specs.Calls.{returned, verdictOf}
+use Rattle.protocol.specs.Widths.{setDigits, longest}
 use Rattle.protocol.specs.Digits.{glyph, hex}
+use Rattle.protocol.specs.Lines.{lineFeed, roleSets, values, shownSets, lineOf}
+use Rattle.protocol.proofs.Laws.{hex-length, values-length}
 use Rattle.frames.specs.declared.write.Line.the-variants.{Written, NoRoom}
-use Rattle.protocol.specs.Lines.{lineFeed, roleSets, values, returnedBy, lineOf}
-use Rattle.protocol.specs.Run.{longest}
-use Rattle.frames.specs.Written.{Wrote, setsIn, writable, lineAnswer, lineWritten}
+use Rattle.frames.specs.Fields.{Glyphs}
+use Rattle.frames.specs.Written.{Wrote, shownPlace, writable, lineAnswer, lineWritten}
 
 -- ---- writes
 
@@ -65,24 +63,31 @@ wrote-both {a} {b} {c} {xs} {ys} {i} {j} {k} first second =
       holds = second .holds ∙ rw (front, rest) (simp append-assoc);
     }
 
+-- the same bytes
+pub wrote-same : {old new : List ℕ} {at next : ℕ} {a b : List ℕ} → a ≡ b → Wrote old new at next a → Wrote old new at next b
+wrote-same {old} {new} {at} {next} q w = subst (λ (bytes : List ℕ). Wrote old new at next bytes) q w
+
+-- where n digits end
+pub wrote-place : {old new : List ℕ} {at next : ℕ} (n v : ℕ) → Wrote old new at next (hex n v) → next ≡ at + n
+wrote-place {at = at} n v w = w .place ∙ ap (λ (m : ℕ). at + m) (hex-length n v)
+
 -- ---- digits
 
-pub hex-suc : (n v : ℕ) → hex (suc n) v ≡ hex n (v / 16) ++ (glyph (v % 16) ∷ [])
+hex-suc : (n v : ℕ) → hex (suc n) v ≡ hex n (v / 16) ++ (glyph (v % 16) ∷ [])
 unfolding hex
 hex-suc n v = refl
 
-pub hex-two : (v : ℕ) → hex 2 v ≡ glyph (v / 16 % 16) ∷ glyph (v % 16) ∷ []
+hex-two : (v : ℕ) → hex 2 v ≡ glyph (v / 16 % 16) ∷ glyph (v % 16) ∷ []
 unfolding hex
 hex-two v = refl
 
--- two digits, stored one after the other
-pub wrote-two : (old : List ℕ) (at v x y : ℕ) → at + 2 ≤ length old → x ≡ glyph (v / 16 % 16) → y ≡ glyph (v % 16) → Wrote old (set (set old at x) (at + 1) y) at (at + 2) (hex 2 v)
-wrote-two old at v x y l p q = rw (hex-two, p, q, add-one at) (wrote-stores (glyph (v / 16 % 16) ∷ glyph (v % 16) ∷ []) old at l)
+below-16 : (v : ℕ) → v % 16 < 16
+below-16 v = omega arith
 
-pub length-hex : (n v : ℕ) → length (hex n v) ≡ n
-unfolding hex
-length-hex zero v = refl
-length-hex (suc n) v = length-append (hex n (v / 16)) _ ∙ ap (λ m. m + 1) (length-hex n (v / 16)) ∙ add-one n
+-- two digits, stored one after the other
+pub wrote-two : (table old : List ℕ) (at v : ℕ) → Glyphs table → at + 2 ≤ length old → Wrote old (set (set old at (getD table (v / 16 % 16) 0)) (at + 1) (getD table (v % 16) 0)) at (at + 2) (hex 2 v)
+wrote-two table old at v g l =
+    rw (hex-two, g .entry (v / 16 % 16) (below-16 (v / 16)), g .entry (v % 16) (below-16 v), add-one at) (wrote-stores (glyph (v / 16 % 16) ∷ glyph (v % 16) ∷ []) old at l)
 
 -- n digits of v from `at` on, of which the last are written, and the first k, which are those of x, are not
 pub record Digits (old : List ℕ) (at n v : ℕ) (new : List ℕ) (x k : ℕ) : Type 0 where
@@ -101,8 +106,10 @@ digits-start old at n v = record {
   holds = sym (take-append-drop (at + n) old);
 }
 
-pub digits-step : {old : List ℕ} {at n v : ℕ} {new : List ℕ} {x k j : ℕ} (d : ℕ) → Digits old at n v new x k → at + n ≤ length old → k ≡ suc j → d ≡ glyph (x % 16) → Digits old at n v (set new (at + j) d) (x / 16) j
-digits-step {old} {at} {n} {v} {new} {x} {k} {j} d g l q e =
+pub digits-step : {table old : List ℕ} {at n v : ℕ} {new : List ℕ} {x k j : ℕ} → Glyphs table → Digits old at n v new x k → at + n ≤ length old → k ≡ suc j → Digits old at n v (set new (at + j) (getD table (x % 16) 0)) (x / 16) j
+digits-step {table} {old} {at} {n} {v} {new} {x} {k} {j} t g l q =
+    let d : ℕ = getD table (x % 16) 0 in
+    let e : d ≡ glyph (x % 16) = t .entry (x % 16) (below-16 x) in
     let few : k ≤ n = g .few in
     let here : at + j < length old = omega arith in
     let next : at + k ≡ suc (at + j) = omega arith in
@@ -120,73 +127,70 @@ digits-step {old} {at} {n} {v} {new} {x} {k} {j} d g l q e =
 pub digits-done : {old : List ℕ} {at n v : ℕ} {new : List ℕ} {x : ℕ} → Digits old at n v new x 0 → at + n ≤ length old → Wrote old new at (at + n) (hex n v)
 unfolding hex
 digits-done {old} {at} {n} {v} {new} {x} g l = record {
-  room = rw length-hex l;
-  place = rw length-hex;
-  holds = rw (length-hex, g .split) (rw add-zero at (g .holds));
+  room = rw hex-length l;
+  place = rw hex-length;
+  holds = rw (hex-length, g .split) (rw add-zero at (g .holds));
 }
 
 -- ---- lines
 
 -- a role set more
-pub wrote-set : {a b c : List ℕ} {i j k : ℕ} (n : ℕ) (s : List ℕ) → Wrote a b i j (roleSets n s) → Wrote b c j k (hex 16 (getD s n 0)) → Wrote a c i k (roleSets (n + 1) s)
+pub wrote-set : {a b c : List ℕ} {i j k : ℕ} (n : ℕ) (s : List ℕ) → Wrote a b i j (roleSets n s) → Wrote b c j k (hex setDigits (getD s n 0)) → Wrote a c i k (roleSets (n + 1) s)
 unfolding roleSets
 wrote-set n s first second = rw (add-one n) (wrote-both first second)
 
-pub length-roleSets : (n : ℕ) (s : List ℕ) → length (roleSets n s) ≡ 16 * n
-unfolding roleSets
-length-roleSets zero s = refl
-length-roleSets (suc n) s = omega (arith, length-append (roleSets n s) (hex 16 (getD s n 0)), length-roleSets n s, length-hex 16 (getD s n 0))
+-- where the values of an answer end
+pub wrote-values : {old new : List ℕ} {at next : ℕ} (a : Answer) (c : Constraint) → shownSets a ≤ flowCount → Wrote old new at next (values a c) → next ≤ at + 148
+wrote-values a c l w = omega (arith, w .place, values-length a c l)
 
--- the longest line has two digits, this many bytes of values, and a line feed
-pub length-values : (a : Answer) (c : Constraint) → setsIn a ≤ flowCount → length (values a c) ≤ 148
-unfolding values
-length-values (Version v) c l = rw length-hex (omega arith)
-length-values (Roles m) c l = rw length-hex (omega arith)
-length-values (Flow n k v) c l = simp (length-append, length-hex) (omega arith)
-length-values Granted c l = omega arith
-length-values (Answer·Constraint n) c l = simp (length-append, length-hex, length-roleSets) (omega arith)
-length-values (Refused why) c l = omega arith
-
-pub length-line : (a : Answer) (c : Constraint) → setsIn a ≤ flowCount → length (lineOf a c) ≤ longest
-unfolding lineOf
-length-line a c l =
-    let rest : length (values a c) ≤ 148 = length-values a c l in
-    simp (length-append, length-hex) (omega arith)
-
--- a flow that there is has a number below the limit
-below-limit : (opened : ℕ) (counts : List ℕ) (s f : ℕ) → flowRows opened counts s f Verdict·Granted ≡ Verdict·Granted → f < flowCount
-unfolding flowRows
-below-limit opened counts s f h =
-    let later = refuse (not (has opened s)) NotOpen (refuse (leb (getD counts s 0) f) NoSuchFlow Verdict·Granted) in
-    leb-false flowCount f (passed (leb flowCount f) AboveLimit later (passed (leb sessionCount s) AboveLimit (refuse (leb flowCount f) AboveLimit later) h .1) .0)
-
--- so no engine shows more role sets than a constraint has
-pub few-sets : (e : Engine) (c : Call) → setsIn (answer e c) ≤ flowCount
-unfolding answer answerOf verdict accepted
-few-sets e c = go (verdict e c) refl
-  where
-    accepting : (c : Call) → verdict e c ≡ Verdict·Granted → setsIn (accepted e c) ≤ flowCount
-    accepting (Assign u r) h = omega arith
-    accepting (Withdraw u r) h = omega arith
-    accepting (Permit r d) h = omega arith
-    accepting (Revoke r d) h = omega arith
-    accepting (Forward d x) h = omega arith
-    accepting (Open s) h = omega arith
-    accepting (Conflicting s d) h = omega arith
-    accepting (Add s d m) h = omega arith
-    accepting (Read u s f d) h = omega arith
-    accepting (Show s f) h = omega (arith, below-limit (e .sessions .opened) (e .sessions .counts) s f h)
-    accepting Unreadable h = omega arith
-
-    go : (v : Verdict) → verdict e c ≡ v → setsIn (answerOf v e c) ≤ flowCount
-    go Verdict·Granted h = accepting c h
-    go (Verdict·Refused why) h = omega arith
+-- a line feed
+pub wrote-feed : (old : List ℕ) (at : ℕ) → at < length old → Wrote old (set old at lineFeed) at (at + 1) (lineFeed ∷ [])
+wrote-feed old at l = wrote-stores (lineFeed ∷ []) old at (omega arith)
 
 -- the parts of a line, and its line feed
-pub wrote-line : {x y z : List ℕ} {i j k : ℕ} (a : Answer) (c : Constraint) (v : ℕ) → v ≡ returnedBy a → Wrote x y i j (hex 2 v) → Wrote y z j k (values a c) → k < length z → Wrote x (set z k lineFeed) i (k + 1) (lineOf a c)
+pub wrote-line : {x y z : List ℕ} {i j k : ℕ} (a : Answer) (c : Constraint) (v : ℕ) → v ≡ returned (verdictOf a) → Wrote x y i j (hex 2 v) → Wrote y z j k (values a c) → k < length z → Wrote x (set z k lineFeed) i (k + 1) (lineOf a c)
 unfolding lineOf
-wrote-line {z = z} {k = k} a c v e two rest l =
-    rw (← e) (wrote-both two (wrote-both rest (wrote-stores (lineFeed ∷ []) z k (omega arith))))
+wrote-line {z = z} {k = k} a c v e two rest l = rw (← e) (wrote-both two (wrote-both rest (wrote-feed z k l)))
+
+-- ---- the flow that an answer shows
+
+pub shown-here : (a : Answer) (s f : ℕ) → a ≡ Answer·Constraint s f → s < sessionCount → f < flowCount → (s * flowCount + f ≡ shownPlace a) × (s * flowCount + f < placeCount)
+unfolding shownPlace place
+shown-here a s f e l m = (rw (e, lt-ltb s sessionCount l, lt-ltb f flowCount m), omega arith)
+
+pub shown-session : (a : Answer) (s f : ℕ) → a ≡ Answer·Constraint s f → sessionCount ≤ s → (0 ≡ shownPlace a) × (0 < placeCount)
+unfolding shownPlace
+shown-session a s f e l = (rw (e, le-ltb s sessionCount l), omega arith)
+
+pub shown-flow : (a : Answer) (s f : ℕ) → a ≡ Answer·Constraint s f → s < sessionCount → flowCount ≤ f → (0 ≡ shownPlace a) × (0 < placeCount)
+unfolding shownPlace
+shown-flow a s f e l m = (rw (e, lt-ltb s sessionCount l, le-ltb f flowCount m), omega arith)
+
+-- an answer that shows none, by the tags that the code's test leaves
+none-shown : (a : Answer) → OneOf (0 ∷ 1 ∷ 2 ∷ 3 ∷ 5 ∷ []) (tagOf the-type a) → (0 ≡ shownPlace a) × (0 ≡ shownSets a)
+unfolding shownPlace shownSets
+none-shown (Version v) h = (refl, refl)
+none-shown (Roles m) h = (refl, refl)
+none-shown (Flow n k v) h = (refl, refl)
+none-shown Granted h = (refl, refl)
+none-shown (Answer·Constraint s f) h = absurd (miss (0 ∷ 1 ∷ 2 ∷ 3 ∷ 5 ∷ []) 4 tt h)
+none-shown (Refused why) h = (refl, refl)
+
+pub shown-nowhere : (a : Answer) → OneOf (0 ∷ 1 ∷ 2 ∷ 3 ∷ 5 ∷ []) (tagOf the-type a) → (0 ≡ shownPlace a) × (0 < placeCount)
+shown-nowhere a h = (none-shown a h .0, omega arith)
+
+-- whether it shows no more role sets than there are
+pub writable-sets : (a : Answer) (s f : ℕ) → a ≡ Answer·Constraint s f → ltb f flowCount ≡ leb (shownSets a) flowCount
+unfolding shownSets
+writable-sets a s f e = rw e
+
+pub writable-none : (a : Answer) → OneOf (0 ∷ 1 ∷ 2 ∷ 3 ∷ 5 ∷ []) (tagOf the-type a) → true ≡ leb (shownSets a) flowCount
+writable-none a h = rw (← none-shown a h .1)
+
+-- a flow that is shown, where no more role sets are shown than there are
+pub shown-below : (a : Answer) (s f : ℕ) → a ≡ Answer·Constraint s f → shownSets a ≤ flowCount → f < flowCount
+unfolding shownSets
+shown-below a s f e l = rw e at l
 
 -- ---- a line that another program asks for: no room, too many role sets, or neither
 
@@ -194,13 +198,13 @@ pub short : (out : List ℕ) (a : Answer) → length out < longest → writable 
 unfolding writable
 short out a l = rw (lt-leb longest (length out) l)
 
-pub many : (out : List ℕ) (a : Answer) → longest ≤ length out → flowCount < setsIn a → writable out a ≡ false
+pub many : (out : List ℕ) (a : Answer) → longest ≤ length out → leb (shownSets a) flowCount ≡ false → writable out a ≡ false
 unfolding writable
-many out a l m = rw (le-leb longest (length out) l) (lt-leb (setsIn a) flowCount m)
+many out a l m = rw (le-leb longest (length out) l) m
 
-pub fitting : (out : List ℕ) (a : Answer) → longest ≤ length out → setsIn a ≤ flowCount → writable out a ≡ true
+pub fitting : (out : List ℕ) (a : Answer) → longest ≤ length out → leb (shownSets a) flowCount ≡ true → writable out a ≡ true
 unfolding writable
-fitting out a l m = rw (le-leb longest (length out) l) (le-leb (setsIn a) flowCount m)
+fitting out a l m = rw (le-leb longest (length out) l) m
 
 pub no-line : (out : List ℕ) (a : Answer) (c : Constraint) → writable out a ≡ false → (NoRoom ≡ lineAnswer out a c) × (out ≡ lineWritten out a c)
 unfolding lineAnswer lineWritten

@@ -1,43 +1,39 @@
--- A stream between two pieces of input: the engine's halves and the line so far.
+-- What a caller of the stream's functions gets: by the machine `fed`, the end of input, and a whole run in one buffer.
 -- Assumes nothing.
-use Prim.Native.Nat.{ℕ, zero, suc, _+_, _-_}
+use Prim.Native.Nat.{ℕ, zero, suc, _+_, _-_, _≤_, _<_, min}
 use mathlib.Core.Path.{_≡_}
 use mathlib.Core.Bool.{Bool, true, false, cond, _&&_}
 use mathlib.Core.List.{List, [], _∷_, _++_}
 use lib.Dec.{eqb, leb}
 use lib.ListN.{length, take, drop}
-use Rattle.engine.specs.declared.Directory.{Directory}
-use Rattle.engine.specs.declared.Sessions.{Sessions}
-use Rattle.engine.specs.declared.Engine.{Engine}
-use Rattle.frames.specs.declared.stream.Stream.{Stream}
-use Rattle.frames.specs.declared.stream.Fed.{Fed as Given}
+use Rattle.model.specs.declared.Engine.{Engine}
+use Rattle.model.specs.State.{fresh}
+use Rattle.protocol.specs.Widths.{longest}
 use Rattle.protocol.specs.Lines.{lineFeed}
-use Rattle.engine.specs.State.{fresh}
+use Rattle.protocol.specs.Run.{run, Fed, fed, feedAt, keptOf}
+use Rattle.frames.specs.declared.stream.Fed.{Fed as Given}
 use Rattle.frames.specs.declared.write.Line.{Line}
 use Rattle.frames.specs.declared.write.Line.the-variants.{Written, NoRoom}
-use Rattle.protocol.specs.Run.{run, Fed, feed}
 
-unfoldable pub engineIn : Stream → Engine
-engineIn s = record { directory = s .directory; sessions = s .sessions }
-
--- the line so far
-unfoldable pub lineIn : Stream → List ℕ
-lineIn s = take (s .len) (s .line)
-
--- what a stream gives back of a piece of input is what the machine does: how much it has taken, what it has written at the start of the buffer, and the rest as it was
-pub record Feeds (chunk old new : List ℕ) (x : Fed) (r : Given) : Type 0 where
-  pub consumed : r .consumed ≡ length chunk - length (x .left)
+-- what is given back of a piece of input is what the machine does: how much was taken, what was written at the start of the buffer, the rest of it as it was,
+-- and the engine after it; where the longest answer has room, a piece with a whole line in it is not given back whole
+pub record Feeds (input old new : List ℕ) (after : Engine) (x : Fed) (r : Given) : Type 0 where
+  pub consumed : r .consumed ≡ length input - length (x .left)
   pub written : r .written ≡ length (x .written)
   pub output : new ≡ x .written ++ drop (length (x .written)) old
-  pub engine : engineIn (r .stream) ≡ x .engine
-  pub line : lineIn (r .stream) ≡ x .line
+  pub engine : after ≡ x .engine
+  pub progress : longest ≤ length old → feedAt input < length input → 0 < r .consumed
+
+-- the part of a buffer between two places, which are cut to its length
+unfoldable pub between : List ℕ → ℕ → ℕ → List ℕ
+between buffer from to = let end : ℕ = min to (length buffer) in take (end - min from end) (drop (min from end) buffer)
 
 -- ---- the end of input
 
 -- what a line so far of this length still answers: nothing, or the number of row 1, as digits
 unfoldable pub ending : ℕ → List ℕ
 ending zero = []
-ending (suc n) = 48 ∷ 49 ∷ lineFeed ∷ []
+ending (suc n) = 0x30 ∷ 0x31 ∷ lineFeed ∷ []
 
 -- bytes are written from `at` on where they fit, and else nothing is: the answer is the place behind them, and the buffer has them
 abbrev pub fits : List ℕ → ℕ → List ℕ → Bool
@@ -51,16 +47,18 @@ endWritten old at bytes = cond (fits old at bytes) (take at old ++ (bytes ++ dro
 
 -- ---- a whole run in one buffer
 
--- the machine takes all of the input with this room, and there is room for its end
+-- the machine takes every whole line of the input with this room, and there is room for its end
 unfoldable pub takesWhole : List ℕ → ℕ → Bool
-takesWhole input room = leb (length (feed room fresh [] input .left)) 0 && leb (length (run input)) room
+takesWhole input room = let left : List ℕ = fed room fresh input .left in eqb (feedAt left) (length left) && leb (length (run input)) room
 
 -- what then stands at the start of the buffer: the run's output, or, where there is no room, the answers before the one that had none
 unfoldable pub ranOutput : List ℕ → ℕ → List ℕ
-ranOutput input room = cond (takesWhole input room) (run input) (feed room fresh [] input .written)
+ranOutput input room = cond (takesWhole input room) (run input) (fed room fresh input .written)
 
 -- the answer is how long the run's output is, or that there is no room; the buffer has what was written, which the run begins with, and is else as it was
 pub record Ran (input old new : List ℕ) (r : Line) : Type 0 where
   pub answer : r ≡ cond (takesWhole input (length old)) (Written (length (run input))) NoRoom
   pub output : new ≡ ranOutput input (length old) ++ drop (length (ranOutput input (length old))) old
   pub begins : (rest : List ℕ) × (run input ≡ ranOutput input (length old) ++ rest)
+  -- there is room where the longest answer has room behind the run's output
+  pub roomy : length (run input) + longest ≤ length old → takesWhole input (length old) ≡ true

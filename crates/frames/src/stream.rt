@@ -1,49 +1,170 @@
-// A run as a stream: input comes in pieces of any size, and answers go out into a lent buffer.
+// A run as a stream: input comes in pieces of any size, and answers go out into a lent buffer. The
+// engine's arrays are the caller's, who lends them for each piece.
+use super::KEPT;
 use super::LONGEST;
 use super::digits;
-use super::read;
+use super::next;
 use super::write;
 use super::write::Line;
 use engine::Call;
-use engine::Directory;
 use engine::Engine;
-use engine::Sessions;
-use engine::flow;
+use engine::Version;
 use engine::step;
-use engine::step::Part;
 ghost use mathlib.Core.Path.{_≡_};
-ghost use mathlib.Core.List.{[], _++_};
 ghost use Prim.Native.Nat.{_+_, _≤_, min};
-ghost use lib.ListN.{length, take, drop};
-ghost use Rattle.engine.specs.State.{fresh};
-ghost use Rattle.frames.specs.Fields.{Values};
-ghost use Rattle.protocol.specs.Lines.{callOf};
-ghost use Rattle.protocol.specs.Run.{feed, finish, feedAt};
-ghost use Rattle.frames.specs.Stream.{engineIn, lineIn, Feeds};
-ghost use Rattle.frames.specs.Stream.{ending, endAnswer, endWritten};
+ghost use lib.ListN.{length, take};
+ghost use Rattle.model.specs.State.{tablesOf, directoryOf, sessionsOf, engineOf};
+ghost use Rattle.model.specs.Calls.{after};
+ghost use Rattle.protocol.specs.Widths.{longest};
+ghost use Rattle.protocol.specs.Run.{reply, fed, keptOf};
+ghost use Rattle.frames.specs.Fields.{Glyphs};
+ghost use Rattle.frames.specs.Written.{Wrote};
+ghost use Rattle.frames.specs.Stream.{Feeds, between, ending, endAnswer, endWritten};
 
-// How many bytes of a line are kept: no frame is longer than 22 digits.
-pub const KEPT: usize = 23;
-
-// An engine's halves, and the line so far.
-pub struct Stream {
-    pub directory: Directory,
-    pub sessions: Sessions,
-    pub line: [u8; KEPT],
-    pub len: usize,
-}
-
-// How many bytes of the input were taken and of the output written, and the stream after that.
+// How many bytes of the input were taken and of the output written.
 pub struct Fed {
-    pub stream: Stream,
     pub consumed: usize,
     pub written: usize,
 }
 
-// Bytes of a line so far.
-struct Begun {
-    bytes: [u8; KEPT],
-    len: usize,
+// A call is carried out, and its answer written from a place on. A read changes nothing and is
+// answered by its number, so that goes straight from the verdict to its digits.
+fn answer_call(
+    roles: &mut [u64; Engine::USERS],
+    readers: &mut [u64; Engine::DATABASES],
+    forwards: &mut [u64; Engine::DATABASES],
+    users: &mut [Version; Engine::USERS],
+    version: &mut Version,
+    opened: &mut u64,
+    counts: &mut [usize; Engine::SESSIONS],
+    roots: &mut [usize; Engine::PLACES],
+    reaches: &mut [u64; Engine::PLACES],
+    versions: &mut [Version; Engine::PLACES],
+    denies: &mut [u64; Engine::PLACES],
+    rolesets: &mut [u64; Engine::ROLE_SETS],
+    glyphs: &[u8; 16],
+    call: Call,
+    out: &mut [u8],
+    at: usize,
+) -> usize
+    requires { ⌜ Glyphs (now glyphs) ⌝ }
+    requires { ⌜ at + longest ≤ length (now out) ⌝ }
+    ensures engine { λ _. ⌜ (engineOf (directoryOf (tablesOf (now (roles .exit)) (now (readers .exit)) (now (forwards .exit))) (now (users .exit)) (now (version .exit))) (sessionsOf (now (opened .exit)) (now (counts .exit)) (now (roots .exit)) (now (reaches .exit)) (now (versions .exit)) (now (denies .exit)) (now (rolesets .exit)))) ≡ after (engineOf (directoryOf (tablesOf (now (roles .entry)) (now (readers .entry)) (now (forwards .entry))) (now (users .entry)) (now (version .entry))) (sessionsOf (now (opened .entry)) (now (counts .entry)) (now (roots .entry)) (now (reaches .entry)) (now (versions .entry)) (now (denies .entry)) (now (rolesets .entry)))) call ⌝ }
+    ensures line { λ r. ⌜ Wrote (now (out .entry)) (now (out .exit)) at r (reply (engineOf (directoryOf (tablesOf (now (roles .entry)) (now (readers .entry)) (now (forwards .entry))) (now (users .entry)) (now (version .entry))) (sessionsOf (now (opened .entry)) (now (counts .entry)) (now (roots .entry)) (now (reaches .entry)) (now (versions .entry)) (now (denies .entry)) (now (rolesets .entry)))) call) ⌝ }
+{
+    if let Call::Read {
+        user,
+        session,
+        flow,
+        database,
+    } = call {
+        let n = reading::number(
+            roles,
+            readers,
+            users,
+            *opened,
+            counts,
+            reaches,
+            versions,
+            denies,
+            rolesets,
+            user,
+            session,
+            flow,
+            database,
+        );
+        return write::write_number(glyphs, n, out, at);
+    }
+    let answer = step::step(
+        roles,
+        readers,
+        forwards,
+        users,
+        version,
+        opened,
+        counts,
+        roots,
+        reaches,
+        versions,
+        denies,
+        rolesets,
+        call,
+    );
+    let k = write::shown_place(answer);
+    let from = k * Engine::FLOWS;
+    let all = &rolesets[..];
+    write::write_answer(
+        glyphs,
+        answer,
+        versions[k],
+        denies[k],
+        &all[from..from + Engine::FLOWS],
+        out,
+        at,
+    )
+}
+
+// Takes a piece of input line by line, as far as it has whole lines and there is room for their
+// answers, and writes those at the start of `out`. It stops at a line where less than the longest
+// answer is left of `out`; where that much is there from the start, a piece with a whole line in it
+// is not left whole.
+pub fn feed(
+    roles: &mut [u64; Engine::USERS],
+    readers: &mut [u64; Engine::DATABASES],
+    forwards: &mut [u64; Engine::DATABASES],
+    users: &mut [Version; Engine::USERS],
+    version: &mut Version,
+    opened: &mut u64,
+    counts: &mut [usize; Engine::SESSIONS],
+    roots: &mut [usize; Engine::PLACES],
+    reaches: &mut [u64; Engine::PLACES],
+    versions: &mut [Version; Engine::PLACES],
+    denies: &mut [u64; Engine::PLACES],
+    rolesets: &mut [u64; Engine::ROLE_SETS],
+    input: &[u8],
+    out: &mut [u8],
+) -> Fed
+    ensures { λ r. ⌜ Feeds (now (input .entry)) (now (out .entry)) (now (out .exit)) (engineOf (directoryOf (tablesOf (now (roles .exit)) (now (readers .exit)) (now (forwards .exit))) (now (users .exit)) (now (version .exit))) (sessionsOf (now (opened .exit)) (now (counts .exit)) (now (roots .exit)) (now (reaches .exit)) (now (versions .exit)) (now (denies .exit)) (now (rolesets .exit)))) (fed (length (now (out .entry))) (engineOf (directoryOf (tablesOf (now (roles .entry)) (now (readers .entry)) (now (forwards .entry))) (now (users .entry)) (now (version .entry))) (sessionsOf (now (opened .entry)) (now (counts .entry)) (now (roots .entry)) (now (reaches .entry)) (now (versions .entry)) (now (denies .entry)) (now (rolesets .entry)))) (now (input .entry))) r ⌝ }
+{
+    let high = digits::highs();
+    let low = digits::lows();
+    let glyphs = digits::glyphs();
+    let mut at = 0usize;
+    let mut written = 0usize;
+    while at < input.len() {
+        if out.len() - written < LONGEST {
+            break;
+        }
+        let line = next::next(&high, &low, input, at);
+        let end = line.end;
+        if input.len() <= end {
+            break;
+        }
+        let call = line.call;
+        written = answer_call(
+            roles,
+            readers,
+            forwards,
+            users,
+            version,
+            opened,
+            counts,
+            roots,
+            reaches,
+            versions,
+            denies,
+            rolesets,
+            &glyphs,
+            call,
+            out,
+            written,
+        );
+        at = end + 1;
+    }
+    Fed {
+        consumed: at,
+        written,
+    }
 }
 
 fn least(a: usize, b: usize) -> usize
@@ -52,52 +173,30 @@ fn least(a: usize, b: usize) -> usize
     if a < b { a } else { b }
 }
 
-// The place of the first line feed from a place on, or the end where there is none.
-pub(crate) fn find_feed(s: &[u8], from: usize) -> usize
-    requires { ⌜ from ≤ length (now s) ⌝ }
-    ensures { λ r. ⌜ r ≡ from + feedAt (drop from (now (s .entry))) ⌝ }
+// Moves what has to be kept of a part of a buffer to its start: all of the part, or the first bytes
+// of a line that has no line feed yet. The answer is how many bytes that is.
+pub fn keep(buffer: &mut [u8], from: usize, to: usize) -> usize
+    ensures { λ r. ⌜ (r ≡ length (keptOf (between (now (buffer .entry)) from to))) × (take r (now (buffer .exit)) ≡ keptOf (between (now (buffer .entry)) from to)) × (length (now (buffer .exit)) ≡ length (now (buffer .entry))) ⌝ }
 {
-    let mut at = from;
-    while at < s.len() {
-        if s[at] == 10 {
-            return at;
-        }
-        at += 1;
-    }
-    at
-}
-
-// The line so far with a piece more, as much as is kept.
-fn pushed(line: [u8; KEPT], len: usize, piece: &[u8]) -> Begun
-    requires { ⌜ len ≤ 23 ⌝ }
-    ensures { λ r. ⌜ (r .len ≤ 23) × (take (r .len) (r .bytes) ≡ take 23 (take len line ++ now (piece .entry))) ⌝ }
-{
-    let more = least(KEPT - len, piece.len());
-    let mut bytes = line;
+    let end = least(to, buffer.len());
+    let start = least(from, end);
+    let n = kept_bytes(&buffer[start..end]);
     let mut i = 0usize;
-    while i < more {
-        bytes[len + i] = piece[i];
+    while i < n {
+        buffer[i] = buffer[start + i];
         i += 1;
     }
-    Begun {
-        bytes,
-        len: len + more,
-    }
+    n
 }
 
-// The call that the line so far and a piece more make.
-fn call_of<'a>(values: &'a [u8; 256], line: [u8; KEPT], len: usize, piece: &'a [u8]) -> Call
-    requires { ⌜ Values (now values) ⌝ }
-    requires { ⌜ len ≤ 23 ⌝ }
-    ensures { λ c. ⌜ c ≡ callOf (take 23 (take len line ++ now (piece .entry))) ⌝ }
+// How many bytes have to be kept.
+fn kept_bytes(left: &[u8]) -> usize
+    ensures { λ r. ⌜ (r ≡ length (keptOf (now (left .entry)))) × (r ≤ length (now (left .entry))) ⌝ }
 {
-    if len == 0 {
-        return read::decode(values, piece);
+    if next::find_feed(left, 0) < left.len() {
+        return left.len();
     }
-    let begun = pushed(line, len, piece);
-    let bytes = begun.bytes;
-    let n = begun.len;
-    read::decode(values, &bytes[..n])
+    least(left.len(), KEPT)
 }
 
 // The answer to a line that has no line feed, from a place on: its number, where a line has begun.
@@ -117,124 +216,9 @@ pub(crate) fn end_line(len: usize, out: &mut [u8], at: usize) -> Line
     Line::Written(at + 3)
 }
 
-impl Stream {
-    // A fresh engine, and no line begun.
-    pub fn new() -> Self
-        ensures { λ s. ⌜ (engineIn s ≡ fresh) × (lineIn s ≡ []) ⌝ }
-    {
-        let e = Engine::new();
-        let directory = e.directory;
-        let sessions = e.sessions;
-        Self {
-            directory,
-            sessions,
-            line: [0; KEPT],
-            len: 0,
-        }
-    }
-
-    // Takes a piece of input as far as there is room for its answers, and writes them at the start
-    // of `out`. It stops at the end of a line where less than the longest answer is left of `out`.
-    pub fn feed(self, chunk: &[u8], out: &mut [u8]) -> Fed
-        ensures { λ r. ⌜ Feeds (now (chunk .entry)) (now (out .entry)) (now (out .exit)) (feed (length (now (out .entry))) (engineIn self) (lineIn self) (now (chunk .entry))) r ⌝ }
-    {
-        let values = digits::values();
-        let mut directory = self.directory;
-        let mut sessions = self.sessions;
-        let mut line = self.line;
-        let mut len = least(self.len, KEPT);
-        let mut at = 0usize;
-        let mut written = 0usize;
-        let mut end = find_feed(chunk, at);
-        while end < chunk.len() {
-            if out.len() - written < LONGEST {
-                break;
-            }
-            let call = call_of(&values, line, len, &chunk[at..end]);
-            let k = step::place_of(call);
-            let c = sessions.constraints[k];
-            let v = step::decide(
-                &directory.tables.roles,
-                &directory.tables.readers,
-                &directory.tables.forwards,
-                &directory.versions,
-                directory.version,
-                sessions.opened,
-                &sessions.counts,
-                &sessions.reaches,
-                c,
-                call,
-            );
-            let part = step::changes(v, call);
-            if let Part::Directory = part {
-                step::put_roles(&mut directory.tables.roles, call);
-                step::put_readers(&mut directory.tables.readers, call);
-                step::put_forwards(&mut directory.tables.forwards, call);
-                let next = step::next_version(&directory.tables.roles, directory.version, call);
-                let old = directory.versions;
-                let new = step::next_versions(old, &directory.tables.roles, next, call);
-                directory.versions = new;
-                directory.version = next;
-            }
-            let answer = step::reply(
-                v,
-                &directory.tables.roles,
-                &directory.tables.readers,
-                &directory.tables.forwards,
-                directory.version,
-                &sessions.counts,
-                &sessions.reaches,
-                call,
-            );
-            written = write::write_answer(answer, c, out, written);
-            if let Part::Opened = part {
-                sessions.opened = step::next_opened(sessions.opened, call);
-            }
-            if let Part::Flows = part {
-                let k = flow::last_place_of(&sessions.counts, call);
-                let last = sessions.constraints[k];
-                let a = flow::stored(
-                    &directory.tables.roles,
-                    &directory.tables.readers,
-                    &directory.tables.forwards,
-                    directory.version,
-                    &sessions.counts,
-                    &sessions.reaches,
-                    last.deny,
-                    call,
-                );
-                let s = a.session;
-                let p = a.at;
-                let constraint = a.constraint;
-                sessions.counts[s] = a.count;
-                sessions.roots[p] = a.root;
-                sessions.reaches[p] = a.reach;
-                sessions.constraints[p] = constraint;
-            }
-            at = end + 1;
-            len = 0;
-            end = find_feed(chunk, at);
-        }
-        let begun = pushed(line, len, &chunk[at..end]);
-        let bytes = begun.bytes;
-        let n = begun.len;
-        Fed {
-            stream: Stream {
-                directory,
-                sessions,
-                line: bytes,
-                len: n,
-            },
-            consumed: end,
-            written,
-        }
-    }
-
-    // At the end of input: the answer to a line that has begun, at the start of `out`.
-    pub fn finish(self, out: &mut [u8]) -> Line
-        ensures { λ r. ⌜ r ≡ endAnswer (now (out .entry)) 0 (finish (engineIn self) (lineIn self)) ⌝ }
-        ensures { λ _. ⌜ now (out .exit) ≡ endWritten (now (out .entry)) 0 (finish (engineIn self) (lineIn self)) ⌝ }
-    {
-        end_line(self.len, out, 0)
-    }
+// At the end of input, where this many bytes are left of a line: its answer, at the start of `out`.
+pub fn finish(len: usize, out: &mut [u8]) -> Line
+    ensures { λ r. ⌜ (r ≡ endAnswer (now (out .entry)) 0 (ending len)) × (now (out .exit) ≡ endWritten (now (out .entry)) 0 (ending len)) ⌝ }
+{
+    end_line(len, out, 0)
 }

@@ -1,20 +1,47 @@
 // A whole input at once, in one buffer.
+use super::next;
 use super::stream;
-use super::stream::Stream;
 use super::write::Line;
+use engine::Engine;
+use engine::Version;
 ghost use Rattle.frames.specs.Stream.{Ran};
 
-// The run of the program on this input, at the start of `out`. There is room where `out` has 151
-// bytes more than the run's output takes. Where there is none, `out` begins with the answers up to
-// there.
+// The run of the program on this input, at the start of `out`. Where there is no room, `out` begins
+// with the answers up to there.
 pub fn run(input: &[u8], out: &mut [u8]) -> Line
     ensures { λ r. ⌜ Ran (now (input .entry)) (now (out .entry)) (now (out .exit)) r ⌝ }
 {
-    let fed = Stream::new().feed(input, out);
-    let written = fed.written;
-    if fed.consumed < input.len() {
+    let mut roles = [0u64; Engine::USERS];
+    let mut readers = [0u64; Engine::DATABASES];
+    let mut forwards = [0u64; Engine::DATABASES];
+    let mut users = [0 as Version; Engine::USERS];
+    let mut version: Version = 0;
+    let mut opened = 0u64;
+    let mut counts = [0usize; Engine::SESSIONS];
+    let mut roots = [0usize; Engine::PLACES];
+    let mut reaches = [0u64; Engine::PLACES];
+    let mut versions = [0 as Version; Engine::PLACES];
+    let mut denies = [0u64; Engine::PLACES];
+    let mut rolesets = [0u64; Engine::ROLE_SETS];
+    let fed = stream::feed(
+        &mut roles,
+        &mut readers,
+        &mut forwards,
+        &mut users,
+        &mut version,
+        &mut opened,
+        &mut counts,
+        &mut roots,
+        &mut reaches,
+        &mut versions,
+        &mut denies,
+        &mut rolesets,
+        input,
+        out,
+    );
+    let from = fed.consumed;
+    if next::find_feed(input, from) < input.len() {
         return Line::NoRoom;
     }
-    let last = fed.stream;
-    stream::end_line(last.len, out, written)
+    stream::end_line(input.len() - from, out, fed.written)
 }

@@ -1,7 +1,9 @@
-// The frame program: frames on standard input, answers on standard output. The counts that a stream
-// gives are cut to the lengths of the buffers, so that safety rests on no contract of its crate.
+// The frame program: frames on standard input, answers on standard output. The engine's arrays are
+// main's own and are lent for each piece of input. The counts that come back are cut to the lengths of
+// the buffers, so that safety rests on no contract of another crate.
+use engine::Engine;
+use engine::Version;
 use frames::Line;
-use frames::Stream;
 use libc::STDIN_FILENO;
 use libc::STDOUT_FILENO;
 ghost use Rattle.io.specs.Counts.{Counts};
@@ -12,16 +14,9 @@ struct Put {
     is_open: bool,
 }
 
-// A stream, the place in the input that it has come to, and whether the output is still open.
-struct Reached {
-    stream: Stream,
-    from: usize,
-    is_open: bool,
-}
-
-// A stream, and whether the output is still open.
+// The place in a piece that the lines have come to, and whether the output is still open.
 struct Went {
-    stream: Stream,
+    taken: usize,
     is_open: bool,
 }
 
@@ -55,6 +50,15 @@ fn read_some(bytes: &mut [u8]) -> usize
         turns -= 1;
     }
     0
+}
+
+// Reads behind the first n bytes of a buffer, and gives the place behind what it has read.
+fn read_behind(input: &mut [u8], n: usize) -> usize
+    ensures { λ r. ⌜ Counts r (now (input .exit)) ⌝ }
+{
+    let from = within(n, input);
+    let end = from + read_some(&mut input[from..]);
+    within(end, input)
 }
 
 // One write, from a place on. An interrupted one stays at its place; one that takes nothing counts
@@ -97,68 +101,161 @@ fn show(bytes: &[u8], n: usize) -> bool {
     write_all(&bytes[..end])
 }
 
-// Feeds a piece from a place on, as far as there is room for its answers, and writes them.
-fn feed_some(stream: Stream, piece: &[u8], place: usize, output: &mut [u8]) -> Reached {
+// The place n bytes behind another, or the end.
+fn behind(piece: &[u8], place: usize, n: usize) -> usize {
+    let from = within(place, piece);
+    from + within(n, &piece[from..])
+}
+
+// Feeds what is left of a piece from a place on, and writes the answers.
+fn feed_some(
+    roles: &mut [u64; Engine::USERS],
+    readers: &mut [u64; Engine::DATABASES],
+    forwards: &mut [u64; Engine::DATABASES],
+    users: &mut [Version; Engine::USERS],
+    version: &mut Version,
+    opened: &mut u64,
+    counts: &mut [usize; Engine::SESSIONS],
+    roots: &mut [usize; Engine::PLACES],
+    reaches: &mut [u64; Engine::PLACES],
+    versions: &mut [Version; Engine::PLACES],
+    denies: &mut [u64; Engine::PLACES],
+    rolesets: &mut [u64; Engine::ROLE_SETS],
+    piece: &[u8],
+    place: usize,
+    output: &mut [u8],
+) -> Went {
     let from = within(place, piece);
     let rest = &piece[from..];
-    let fed = stream.feed(rest, output);
+    let fed = frames::feed(
+        roles,
+        readers,
+        forwards,
+        users,
+        version,
+        opened,
+        counts,
+        roots,
+        reaches,
+        versions,
+        denies,
+        rolesets,
+        rest,
+        output,
+    );
     let is_open = show(output, fed.written);
-    let next = fed.stream;
-    Reached {
-        stream: next,
-        from: from + within(fed.consumed, rest),
+    Went {
+        taken: behind(piece, from, fed.consumed),
         is_open,
     }
 }
 
-// Feeds all of a piece, unless the output closes.
-fn feed_all(stream: Stream, piece: &[u8], output: &mut [u8]) -> Went {
-    let mut now = stream;
-    let mut from = 0usize;
-    let mut is_open = true;
+// Feeds a piece as long as there are whole lines in it, and writes the answers.
+fn feed_all(
+    roles: &mut [u64; Engine::USERS],
+    readers: &mut [u64; Engine::DATABASES],
+    forwards: &mut [u64; Engine::DATABASES],
+    users: &mut [Version; Engine::USERS],
+    version: &mut Version,
+    opened: &mut u64,
+    counts: &mut [usize; Engine::SESSIONS],
+    roots: &mut [usize; Engine::PLACES],
+    reaches: &mut [u64; Engine::PLACES],
+    versions: &mut [Version; Engine::PLACES],
+    denies: &mut [u64; Engine::PLACES],
+    rolesets: &mut [u64; Engine::ROLE_SETS],
+    piece: &[u8],
+    output: &mut [u8],
+) -> Went {
+    let mut taken = 0usize;
     let mut turns = u64::MAX;
     while 0 < turns {
-        let reached = feed_some(now, piece, from, output);
-        let next = reached.stream;
-        now = next;
-        from = reached.from;
-        is_open = reached.is_open;
-        if !is_open || piece.len() <= from {
+        let went = feed_some(
+            roles,
+            readers,
+            forwards,
+            users,
+            version,
+            opened,
+            counts,
+            roots,
+            reaches,
+            versions,
+            denies,
+            rolesets,
+            piece,
+            taken,
+            output,
+        );
+        if !went.is_open {
+            return Went {
+                taken,
+                is_open: false,
+            };
+        }
+        if went.taken <= taken {
             break;
         }
+        taken = went.taken;
         turns -= 1;
     }
     Went {
-        stream: now,
-        is_open,
+        taken,
+        is_open: true,
     }
 }
 
-// Writes the answer to a last line that has no line feed.
-fn end(stream: Stream, output: &mut [u8]) {
-    let line = stream.finish(output);
+// Writes the answer to a last line that has no line feed, of which this many bytes are left.
+fn end(len: usize, output: &mut [u8]) {
+    let line = frames::finish(len, output);
     if let Line::Written(n) = line {
         show(output, n);
     }
 }
 
 fn main() {
+    let mut roles = [0u64; Engine::USERS];
+    let mut readers = [0u64; Engine::DATABASES];
+    let mut forwards = [0u64; Engine::DATABASES];
+    let mut users = [0 as Version; Engine::USERS];
+    let mut version: Version = 0;
+    let mut opened = 0u64;
+    let mut counts = [0usize; Engine::SESSIONS];
+    let mut roots = [0usize; Engine::PLACES];
+    let mut reaches = [0u64; Engine::PLACES];
+    let mut versions = [0 as Version; Engine::PLACES];
+    let mut denies = [0u64; Engine::PLACES];
+    let mut rolesets = [0u64; Engine::ROLE_SETS];
     let mut input = io::large_buffer();
     let mut output = io::large_buffer();
-    let mut stream = Stream::new();
+    let mut len = 0usize;
     let mut turns = u64::MAX;
     while 0 < turns {
-        let n = read_some(&mut input);
-        if n == 0 {
+        let filled = read_behind(&mut input, len);
+        if filled <= len {
             break;
         }
-        let went = feed_all(stream, &input[..n], &mut output);
-        let next = went.stream;
-        stream = next;
+        let went = feed_all(
+            &mut roles,
+            &mut readers,
+            &mut forwards,
+            &mut users,
+            &mut version,
+            &mut opened,
+            &mut counts,
+            &mut roots,
+            &mut reaches,
+            &mut versions,
+            &mut denies,
+            &mut rolesets,
+            &input[..filled],
+            &mut output,
+        );
         if !went.is_open {
             return;
         }
+        len = frames::keep(&mut input, went.taken, filled);
         turns -= 1;
     }
-    end(stream, &mut output);
+    end(len, &mut output);
 }

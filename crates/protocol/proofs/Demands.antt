@@ -1,21 +1,25 @@
--- The demands for bytes and for chunks hold.
+-- The demands for bytes and for pieces hold.
 -- Assumes nothing.
-use Prim.Native.Nat.{ℕ, zero, suc, _<_}
+use Prim.Native.Nat.{ℕ, zero, suc, _≤_, _<_}
 use mathlib.Core.Path.{_≡_, refl, sym, ap, _∙_}
+use mathlib.Core.Bool.{Bool, true, false, cond}
 use mathlib.Core.List.{List, [], _∷_, _++_, append-nil, append-assoc}
 use native.Mathlib.Omega.{arith}
+use lib.Dec.{ltb}
 use lib.ListN.{length, getD, take, drop}
-use Rattle.engine.specs.declared.Engine.{Engine}
-use Rattle.engine.specs.declared.calls.Call.{Call}
-use Rattle.engine.specs.declared.calls.Call.the-variants.{Unreadable}
-use Rattle.engine.specs.State.{fresh}
-use Rattle.engine.specs.Calls.{after}
-use Rattle.engine.specs.Demands.{engineAfter, callAt, engineAt}
-use Rattle.engine.proofs.Seen.{demand1}
-use Rattle.engine.proofs.Demands.{demand3}
-use Rattle.protocol.specs.Run.{callsOf, reply, replies, run, Fed, wrote, feed, finish}
-use Rattle.protocol.proofs.Laws.{NoFeed, none, more, run-more, more-end, fed-chunks, fed-no-feed}
-use Rattle.protocol.specs.Demands.{ByteDemands, Chunk, allBytes, fedAll}
+use borrow.Author.Tests.{ltb-false}
+use Rattle.model.specs.declared.Engine.{Engine}
+use Rattle.model.specs.declared.calls.Call.{Call}
+use Rattle.model.specs.declared.calls.Call.the-variants.{Unreadable}
+use Rattle.model.specs.State.{fresh}
+use Rattle.model.specs.Calls.{after}
+use Rattle.model.specs.Demands.{engineAfter, callAt, engineAt}
+use Rattle.model.proofs.Seen.{demand1}
+use Rattle.model.proofs.Demands.{demand3}
+use Rattle.protocol.specs.Widths.{kept}
+use Rattle.protocol.specs.Run.{callsOf, reply, replies, run, Fed, wrote, fed, feedAt, keptOf, finish}
+use Rattle.protocol.proofs.Laws.{more, run-more, more-end, more-capped, fed-more, fed-left, fed-shorter, no-feed-of, feedAt-le}
+use Rattle.protocol.specs.Demands.{ByteDemands, Piece, allBytes, fedAll, InPieces, Progress}
 
 -- one call's answer among those of a list
 answer-of : (e : Engine) (cs : List Call) (i : ℕ) → i < length cs
@@ -33,29 +37,31 @@ byte-demands input = record {
   answered = λ i l. answer-of fresh (callsOf input) i l;
 }
 
-any-chunks : (e : Engine) (line left : List ℕ) (ps : List Chunk) → NoFeed line
-    → more e line (left ++ allBytes ps) ≡ fedAll e line left ps .written ++ more (fedAll e line left ps .engine) (fedAll e line left ps .line) (fedAll e line left ps .left)
+-- what is kept of a piece is as good as what is left of it
+more-kept : (e : Engine) (left rest : List ℕ) → more e (keptOf left ++ rest) ≡ more e (left ++ rest)
+unfolding keptOf
+more-kept e left rest = go (ltb (feedAt left) (length left)) refl
+  where
+    go : (t : Bool) → ltb (feedAt left) (length left) ≡ t → more e (cond t left (take kept left) ++ rest) ≡ more e (left ++ rest)
+    go true q = refl
+    go false q = more-capped e left rest (no-feed-of left (omega (arith, ltb-false (feedAt left) (length left) q, feedAt-le left)))
+
+any-pieces : (e : Engine) (left : List ℕ) (ps : List Piece) → more e (left ++ allBytes ps) ≡ fedAll e left ps .written ++ more (fedAll e left ps .engine) (fedAll e left ps .left)
 unfolding allBytes fedAll wrote
-any-chunks e line left [] h = rw append-nil
-any-chunks e line left (p ∷ ps) h =
-    ap (more e line) (sym (append-assoc left (p .bytes) (allBytes ps)))
-    ∙ fed-chunks (p .room) e line (left ++ p .bytes) (allBytes ps) h
-    ∙ ap (λ (bytes : List ℕ). x .written ++ bytes) (any-chunks (x .engine) (x .line) (x .left) ps (fed-no-feed (p .room) e line (left ++ p .bytes) h))
+any-pieces e left [] = rw append-nil
+any-pieces e left (p ∷ ps) =
+    ap (more e) (sym (append-assoc left (p .bytes) (allBytes ps)))
+    ∙ fed-more (p .room) e (left ++ p .bytes) (allBytes ps)
+    ∙ ap (λ (bytes : List ℕ). x .written ++ bytes) (sym (more-kept (x .engine) (x .left) (allBytes ps)) ∙ any-pieces (x .engine) (keptOf (x .left)) ps)
     ∙ sym (append-assoc (x .written) _ _)
   where
     x : Fed
-    x = feed (p .room) e line (left ++ p .bytes)
+    x = fed (p .room) e (left ++ p .bytes)
 
-all-no-feed : (e : Engine) (line left : List ℕ) (ps : List Chunk) → NoFeed line → NoFeed (fedAll e line left ps .line)
-unfolding fedAll wrote
-all-no-feed e line left [] h = h
-all-no-feed e line left (p ∷ ps) h = all-no-feed _ _ _ ps (fed-no-feed (p .room) e line (left ++ p .bytes) h)
+pub in-pieces : (ps : List Piece) → InPieces ps
+in-pieces ps = record {
+  whole = λ q. run-more (allBytes ps) ∙ any-pieces fresh [] ps ∙ ap (λ (bytes : List ℕ). fedAll fresh [] ps .written ++ bytes) (more-end _ _ (no-feed-of (fedAll fresh [] ps .left) q));
+}
 
--- whatever the chunks and the rooms: where nothing is left of the last one, what they write and what the end of input adds is the run on their concatenation
-pub chunks-run : (ps : List Chunk) → fedAll fresh [] [] ps .left ≡ []
-    → run (allBytes ps) ≡ fedAll fresh [] [] ps .written ++ finish (fedAll fresh [] [] ps .engine) (fedAll fresh [] [] ps .line)
-chunks-run ps q =
-    run-more (allBytes ps)
-    ∙ any-chunks fresh [] [] ps none
-    ∙ ap (λ (left : List ℕ). fedAll fresh [] [] ps .written ++ more (fedAll fresh [] [] ps .engine) (fedAll fresh [] [] ps .line) left) q
-    ∙ ap (λ (bytes : List ℕ). fedAll fresh [] [] ps .written ++ bytes) (more-end _ _ (all-no-feed fresh [] [] ps none))
+pub progress : (room : ℕ) (e : Engine) (bytes : List ℕ) → Progress room e bytes
+progress room e bytes = record { left = fed-left room e bytes .1; shorter = fed-shorter room e bytes }

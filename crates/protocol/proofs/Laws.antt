@@ -1,43 +1,53 @@
 -- The laws of lines and of the machine that takes its input piece by piece: whatever the pieces and the room for answers, it writes what the run writes.
--- Nothing here has to be read to understand a contract.
 -- Assumes nothing.
 use Prim.Native.Nat.{ℕ, zero, suc, _+_, _-_, _*_, _/_, _≤_, _<_}
 use mathlib.Core.Path.{_≡_, refl, sym, ap, _∙_}
-use mathlib.Core.Bool.{Bool, true, false, cond, _&&_}
+use mathlib.Core.Bool.{Bool, true, false, cond, not, _&&_, _||_}
 use mathlib.Core.List.{List, [], _∷_, _++_, map, append-nil, append-assoc}
 use native.Mathlib.Decide.{decLt}
 use native.Mathlib.Omega.{arith}
 use lib.Dec.{eqb, leb, ltb}
 use lib.ListN.{length, getD, take, drop, length-append, length-take, length-drop}
 use lib.Seq.{take-all, append-snoc, drop-drop, drop-at, length-take-le}
-use borrow.Author.Tests.{eqb-true, eqb-false, eq-eqb, ne-eqb, ltb-false, lt-ltb, le-ltb, leb-false}
-use Rattle.engine.specs.declared.Constraint.{Constraint}
-use Rattle.engine.specs.declared.Engine.{Engine}
-use Rattle.engine.specs.declared.calls.Verdict.{Verdict}
-use Rattle.engine.specs.declared.calls.Verdict.the-variants.{Granted, Refused}
-use Rattle.engine.specs.declared.calls.Call.{Call}
-use Rattle.engine.specs.declared.calls.Call.the-variants.{Assign, Withdraw, Permit, Revoke, Forward, Open, Conflicting, Add, Read, Show, Unreadable}
-use Rattle.engine.specs.declared.calls.Answer.{Answer}
-use Rattle.engine.specs.State.{fresh}
-use Rattle.engine.specs.Rows.{flowRows}
-use Rattle.engine.specs.Calls.{verdict, accepted, answerOf, answer, after}
+use borrow.Author.Tests.{eqb-true, eqb-false, eq-eqb, ne-eqb, ltb-true, ltb-false, lt-ltb, le-ltb, leb-false}
+use Rattle.sets.proofs.Laws.{or-neither}
+use Rattle.model.specs.declared.Constraint.{Constraint}
+use Rattle.model.specs.declared.Engine.{Engine}
+use Rattle.model.specs.declared.calls.Refusal.{Refusal}
+use Rattle.model.specs.declared.calls.Verdict.{Verdict}
+use Rattle.model.specs.declared.calls.Verdict.the-variants.{Granted as Verdict·Granted, Refused as Verdict·Refused}
+use Rattle.model.specs.declared.calls.Ask.the-variants.{Open, Conflicting, Add, Show}
+use Rattle.model.specs.declared.calls.Call.{Call}
+use Rattle.model.specs.declared.calls.Call.the-variants.{Table, Session, Read, Unreadable}
+use Rattle.model.specs.declared.calls.Answer.{Answer}
+use Rattle.model.specs.declared.calls.Answer.the-variants.{Version, Roles, Flow, Granted, Constraint as Answer·Constraint, Refused}
+use Rattle.model.specs.State.{fresh}
+use Rattle.model.specs.Limits.{sessionCount, flowCount}
+use Rattle.model.specs.Calls.{returned, flowsIn, verdict, after, answer}
+use Rattle.model.specs.Refusals.{rows, askRows}
+use Rattle.model.specs.Demands.{seen, Demand1}
+use Rattle.model.proofs.Chains.{not-met}
+use Rattle.model.proofs.SeenRows.{length-flows}
+use Rattle.model.proofs.Seen.{demand1}
+use Rattle.protocol.specs.Widths.{setDigits, kept, longest}
 use Rattle.protocol.specs.Digits.{allDigits, number, hex}
-use Rattle.protocol.specs.Lines.{frame, callOf, lineFeed, roleSets, values, lineOf}
-use Rattle.protocol.specs.Run.{Split, withByte, split, lastCall, callsOf, constraintOf, reply, replies, run, kept, push, longest, Fed, wrote, feed, finish, feedAt}
+use Rattle.protocol.specs.Lines.{restDigits, called, frame, callOf, lineFeed, roleSets, values, shownSets, lineOf}
+use Rattle.protocol.specs.Run.{Split, withByte, split, lastCall, callsOf, shownIn, reply, replies, run, Fed, wrote, fedFrom, fed, feedAt, keptOf, finish}
 
 -- ---- a line is read by its first 23 bytes
 
-and-false : (b : Bool) → (b && false) ≡ false
-and-false true = refl
-and-false false = refl
-
 -- no kind has so many fields
+rest-short : (kind : ℕ) → restDigits kind ≤ 20
+unfolding restDigits
+rest-short kind = pick (eqb kind 6) 2 _ (omega arith) (pick (eqb kind 8) 20 _ (omega arith) (pick (eqb kind 9) 8 _ (omega arith) (pick (leb 1 kind && leb kind 10) 4 0 (omega arith) (omega arith))))
+  where
+    pick : (t : Bool) (a b : ℕ) → a ≤ 20 → b ≤ 20 → cond t a b ≤ 20
+    pick true a b l m = l
+    pick false a b l m = m
+
 frame-longer : (kind : ℕ) (rest : List ℕ) → 20 < length rest → frame kind rest ≡ Unreadable
 unfolding frame
-frame-longer kind rest h = simp (differs 2 (omega arith), differs 4 (omega arith), differs 8 (omega arith), differs 20 (omega arith), and-false)
-  where
-    differs : (n : ℕ) → n ≤ 20 → eqb (length rest) n ≡ false
-    differs n l = ne-eqb (length rest) n (λ e. omega arith)
+frame-longer kind rest h = rw (ne-eqb (length rest) (restDigits kind) (λ e. omega (arith, rest-short kind)))
 
 -- no frame is longer than 22 digits
 pub longer : (line : List ℕ) → 22 < length line → callOf line ≡ Unreadable
@@ -79,10 +89,6 @@ no-feed-take zero h = none
 no-feed-take (suc n) none = none
 no-feed-take (suc n) (byte m h) = byte m (no-feed-take n h)
 
-pub no-feed-push : {line : List ℕ} {b : ℕ} → NoFeed line → (b ≡ lineFeed → ⊥) → NoFeed (push line b)
-unfolding push
-no-feed-push h n = no-feed-take kept (no-feed-append h (byte n none))
-
 -- ---- splitting
 
 -- a line begun, then this
@@ -120,21 +126,21 @@ split-rest line h = ap split (sym (append-nil line)) ∙ split-begun line [] h �
 
 -- ---- what is still to be written
 
--- what the program still writes from engine e, with this line begun, on these bytes
-unfoldable pub more : Engine → List ℕ → List ℕ → List ℕ
-more e line bytes = replies e (callsOf (line ++ bytes))
+-- what the program still writes from engine e on these bytes
+unfoldable pub more : Engine → List ℕ → List ℕ
+more e bytes = replies e (callsOf bytes)
 
-pub run-more : (input : List ℕ) → run input ≡ more fresh [] input
+pub run-more : (input : List ℕ) → run input ≡ more fresh input
 unfolding run more
 run-more input = refl
 
-pub more-end : (e : Engine) (line : List ℕ) → NoFeed line → more e line [] ≡ finish e line
+pub more-end : (e : Engine) (line : List ℕ) → NoFeed line → more e line ≡ finish e line
 unfolding more finish callsOf
-more-end e line h = rw (append-nil, split-rest line h)
+more-end e line h = rw (split-rest line h)
 
-pub more-feed : (e : Engine) (line bytes : List ℕ) → NoFeed line → more e line (lineFeed ∷ bytes) ≡ reply e (callOf line) ++ more (after e (callOf line)) [] bytes
+pub more-line : (e : Engine) (line bytes : List ℕ) → NoFeed line → more e (line ++ (lineFeed ∷ bytes)) ≡ reply e (callOf line) ++ more (after e (callOf line)) bytes
 unfolding more callsOf replies
-more-feed e line bytes h = rw (split-line line bytes h)
+more-line e line bytes h = rw (split-line line bytes h)
 
 last-capped : (l m : List ℕ) → lastCall (take kept l ++ m) ≡ lastCall (l ++ m)
 unfolding lastCall
@@ -153,20 +159,13 @@ calls-begun line s = go (s .lines)
     go [] = rw (begun-last (take kept line) (s .rest), begun-last line (s .rest)) (last-capped line (s .rest))
     go (first ∷ others) = rw (begun-first (take kept line) first others (s .rest), begun-first line first others (s .rest), capped-front line first)
 
--- the cap on the line changes nothing
-pub more-capped : (e : Engine) (line bytes : List ℕ) → NoFeed line → more e (take kept line) bytes ≡ more e line bytes
+-- a cap on a line that has begun changes nothing
+pub more-capped : (e : Engine) (line bytes : List ℕ) → NoFeed line → more e (take kept line ++ bytes) ≡ more e (line ++ bytes)
 unfolding more callsOf callsIn
 more-capped e line bytes h =
     ap (λ (s : Split). replies e (callsIn s)) (split-begun (take kept line) bytes (no-feed-take kept h))
     ∙ ap (replies e) (calls-begun line (split bytes))
     ∙ ap (λ (s : Split). replies e (callsIn s)) (sym (split-begun line bytes h))
-
-pub more-byte : (e : Engine) (line : List ℕ) (b : ℕ) (bytes : List ℕ) → NoFeed line → (b ≡ lineFeed → ⊥) → more e line (b ∷ bytes) ≡ more e (push line b) bytes
-unfolding push more
-more-byte e line b bytes h n = moved ∙ sym (more-capped e (line ++ (b ∷ [])) bytes (no-feed-append h (byte n none)))
-  where
-    moved : more e line (b ∷ bytes) ≡ more e (line ++ (b ∷ [])) bytes
-    moved = rw append-snoc
 
 -- ---- the machine
 
@@ -179,98 +178,80 @@ unfolding wrote
 wrote-wrote a b x = rw append-assoc
 
 -- with nothing done of a piece
-abbrev pub waiting : Engine → List ℕ → List ℕ → Fed
-waiting e line bytes = record { written = []; engine = e; line = line; left = bytes }
+abbrev pub waiting : Engine → List ℕ → Fed
+waiting e bytes = record { written = []; engine = e; left = bytes }
 
-pub feed-none : (room : ℕ) (e : Engine) (line : List ℕ) → feed room e line [] ≡ waiting e line []
-unfolding feed
-feed-none room e line = refl
+-- at a line feed, and at another byte
+fed-feed : (room : ℕ) (e : Engine) (line bytes : List ℕ) → fedFrom room e line (lineFeed ∷ bytes)
+    ≡ cond (ltb room longest) (waiting e (line ++ (lineFeed ∷ bytes))) (wrote (reply e (callOf line)) (fedFrom (room - length (reply e (callOf line))) (after e (callOf line)) [] bytes))
+unfolding fedFrom
+fed-feed room e line bytes = refl
 
-pub feed-feed : (room : ℕ) (e : Engine) (line bytes : List ℕ) → feed room e line (lineFeed ∷ bytes)
-    ≡ cond (ltb room longest) (waiting e line (lineFeed ∷ bytes)) (wrote (reply e (callOf line)) (feed (room - length (reply e (callOf line))) (after e (callOf line)) [] bytes))
-unfolding feed
-feed-feed room e line bytes = refl
+fed-byte : (room : ℕ) (e : Engine) (line : List ℕ) (b : ℕ) (bytes : List ℕ) → (b ≡ lineFeed → ⊥) → fedFrom room e line (b ∷ bytes) ≡ fedFrom room e (line ++ (b ∷ [])) bytes
+unfolding fedFrom
+fed-byte room e line b bytes n = rw (ne-eqb b lineFeed n)
 
-pub feed-byte : (room : ℕ) (e : Engine) (line : List ℕ) (b : ℕ) (bytes : List ℕ) → (b ≡ lineFeed → ⊥) → feed room e line (b ∷ bytes) ≡ feed room e (push line b) bytes
-unfolding feed
-feed-byte room e line b bytes n = rw (ne-eqb b lineFeed n)
+no-feed-more : {line : List ℕ} {b : ℕ} → NoFeed line → (b ≡ lineFeed → ⊥) → NoFeed (line ++ (b ∷ []))
+no-feed-more h n = no-feed-append h (byte n none)
 
--- what holds wherever the machine stops, and is kept by an answered line and by a byte more, holds of what the machine has fed
+-- what holds wherever the machine stops, and is kept by an answered line, holds of what the machine has fed
 module _
-    (P : ℕ → Engine → List ℕ → List ℕ → Fed → Type 0)
-    (stops : (room : ℕ) (e : Engine) (line bytes : List ℕ) → NoFeed line → P room e line bytes (waiting e line bytes))
+    (P : ℕ → Engine → List ℕ → Fed → Type 0)
+    (stops : (room : ℕ) (e : Engine) (bytes : List ℕ) → P room e bytes (waiting e bytes))
     (answers : (room : ℕ) (e : Engine) (line bytes : List ℕ) (x : Fed) → longest ≤ room → NoFeed line
-    → P (room - length (reply e (callOf line))) (after e (callOf line)) [] bytes x → P room e line (lineFeed ∷ bytes) (wrote (reply e (callOf line)) x))
-    (pushes : (room : ℕ) (e : Engine) (line : List ℕ) (b : ℕ) (bytes : List ℕ) (x : Fed) → NoFeed line → (b ≡ lineFeed → ⊥) → P room e (push line b) bytes x → P room e line (b ∷ bytes) x)
+    → P (room - length (reply e (callOf line))) (after e (callOf line)) bytes x → P room e (line ++ (lineFeed ∷ bytes)) (wrote (reply e (callOf line)) x))
   where
-    pub fed-by : (room : ℕ) (e : Engine) (line bytes : List ℕ) → NoFeed line → P room e line bytes (feed room e line bytes)
-    fed-by room e line [] h = rw (feed-none room e line) (stops room e line [] h)
-    fed-by room e line (b ∷ bytes) h =
-        go (eqb b lineFeed) refl (fed-by (room - length (reply e (callOf line))) (after e (callOf line)) [] bytes none) (λ n. fed-by room e (push line b) bytes (no-feed-push h n))
+    fed-from : (room : ℕ) (e : Engine) (line bytes : List ℕ) → NoFeed line → P room e (line ++ bytes) (fedFrom room e line bytes)
+    unfolding fedFrom
+    fed-from room e line [] h = rw append-nil (stops room e line)
+    fed-from room e line (b ∷ bytes) h =
+        go (eqb b lineFeed) refl (fed-from (room - length (reply e (callOf line))) (after e (callOf line)) [] bytes none) (λ n. fed-from room e (line ++ (b ∷ [])) bytes (no-feed-more h n))
       where
         answered : Fed
-        answered = feed (room - length (reply e (callOf line))) (after e (callOf line)) [] bytes
+        answered = fedFrom (room - length (reply e (callOf line))) (after e (callOf line)) [] bytes
 
-        pick : (t : Bool) → ltb room longest ≡ t → P (room - length (reply e (callOf line))) (after e (callOf line)) [] bytes answered
-            → P room e line (lineFeed ∷ bytes) (cond t (waiting e line (lineFeed ∷ bytes)) (wrote (reply e (callOf line)) answered))
-        pick true t r = stops room e line (lineFeed ∷ bytes) h
+        pick : (t : Bool) → ltb room longest ≡ t → P (room - length (reply e (callOf line))) (after e (callOf line)) bytes answered
+            → P room e (line ++ (lineFeed ∷ bytes)) (cond t (waiting e (line ++ (lineFeed ∷ bytes))) (wrote (reply e (callOf line)) answered))
+        pick true t r = stops room e (line ++ (lineFeed ∷ bytes))
         pick false t r = answers room e line bytes answered (ltb-false room longest t) h r
 
-        go : (t : Bool) → eqb b lineFeed ≡ t → P (room - length (reply e (callOf line))) (after e (callOf line)) [] bytes answered
-            → ((b ≡ lineFeed → ⊥) → P room e (push line b) bytes (feed room e (push line b) bytes)) → P room e line (b ∷ bytes) (feed room e line (b ∷ bytes))
-        go true t r f = rw (eqb-true b lineFeed t, feed-feed room e line bytes) (pick (ltb room longest) refl r)
-        go false t r f = let n = eqb-false b lineFeed t in rw (feed-byte room e line b bytes n) (pushes room e line b bytes (feed room e (push line b) bytes) h n (f n))
+        go : (t : Bool) → eqb b lineFeed ≡ t → P (room - length (reply e (callOf line))) (after e (callOf line)) bytes answered
+            → ((b ≡ lineFeed → ⊥) → P room e ((line ++ (b ∷ [])) ++ bytes) (fedFrom room e (line ++ (b ∷ [])) bytes)) → P room e (line ++ (b ∷ bytes)) (fedFrom room e line (b ∷ bytes))
+        go true t r f = rw (eqb-true b lineFeed t, fed-feed room e line bytes) (pick (ltb room longest) refl r)
+        go false t r f = let n = eqb-false b lineFeed t in rw (fed-byte room e line b bytes n) (rw append-snoc at (f n))
+
+    pub fed-by : (room : ℕ) (e : Engine) (bytes : List ℕ) → P room e bytes (fed room e bytes)
+    unfolding fed
+    fed-by room e bytes = fed-from room e [] bytes none
 
 -- feeding a piece and then what is left of it with the next is feeding both
-pub fed-chunks : (room : ℕ) (e : Engine) (line a b : List ℕ) → NoFeed line
-    → more e line (a ++ b) ≡ feed room e line a .written ++ more (feed room e line a .engine) (feed room e line a .line) (feed room e line a .left ++ b)
+pub fed-more : (room : ℕ) (e : Engine) (bytes rest : List ℕ) → more e (bytes ++ rest) ≡ fed room e bytes .written ++ more (fed room e bytes .engine) (fed room e bytes .left ++ rest)
 unfolding wrote
-fed-chunks room e line a b =
-    fed-by (λ m d l p x. more d l (p ++ b) ≡ x .written ++ more (x .engine) (x .line) (x .left ++ b))
-    (λ m d l p h. refl)
-    (λ m d l p x k h r. more-feed d l (p ++ b) h ∙ joined d l x r)
-    (λ m d l c p x h n r. more-byte d l c (p ++ b) h n ∙ r)
-    room e line a
+fed-more room e bytes rest =
+    fed-by (λ m d p x. more d (p ++ rest) ≡ x .written ++ more (x .engine) (x .left ++ rest))
+    (λ m d p. refl)
+    (λ m d l p x k h r. rw (append-assoc l (lineFeed ∷ p) rest) (more-line d l (p ++ rest) h ∙ rw (r, append-assoc)))
+    room e bytes
+
+pub fed-run : (room : ℕ) (e : Engine) (bytes : List ℕ) → more e bytes ≡ fed room e bytes .written ++ more (fed room e bytes .engine) (fed room e bytes .left)
+fed-run room e bytes = simp append-nil at (fed-more room e bytes [])
+
+-- what is left is an end of the piece
+pub fed-left : (room : ℕ) (e : Engine) (bytes : List ℕ)
+    → (length (fed room e bytes .left) ≤ length bytes) × (fed room e bytes .left ≡ drop (length bytes - length (fed room e bytes .left)) bytes)
+unfolding wrote
+fed-left =
+    fed-by (λ m d p x. (length (x .left) ≤ length p) × (x .left ≡ drop (length p - length (x .left)) p))
+    (λ m d p. let z : length p - length p ≡ 0 = omega arith in (omega arith, rw z))
+    (λ m d l p x k h r.
+    let n : length (l ++ (lineFeed ∷ p)) ≡ length l + suc (length p) = length-append l (lineFeed ∷ p) in
+    let w : length l + suc (length p) - length (x .left) ≡ suc (length l) + (length p - length (x .left)) = omega (arith, r .0) in
+    (rw n (omega (arith, r .0)), rw (n, w) (r .1 ∙ sym (behind l p (length p - length (x .left))))))
   where
-    joined : (d : Engine) (l : List ℕ) (x : Fed) {rest : List ℕ} → rest ≡ x .written ++ more (x .engine) (x .line) (x .left ++ b)
-        → reply d (callOf l) ++ rest ≡ wrote (reply d (callOf l)) x .written ++ more (wrote (reply d (callOf l)) x .engine) (wrote (reply d (callOf l)) x .line) (wrote (reply d (callOf l)) x .left ++ b)
-    joined d l x r = rw (r, append-assoc)
-
-pub fed-run : (room : ℕ) (e : Engine) (line bytes : List ℕ) → NoFeed line
-    → more e line bytes ≡ feed room e line bytes .written ++ more (feed room e line bytes .engine) (feed room e line bytes .line) (feed room e line bytes .left)
-fed-run room e line bytes h = simp append-nil at (fed-chunks room e line bytes [] h)
-
--- the line after a piece has no line feed again, and is no longer than 23 bytes
-pub fed-no-feed : (room : ℕ) (e : Engine) (line bytes : List ℕ) → NoFeed line → NoFeed (feed room e line bytes .line)
-unfolding wrote
-fed-no-feed = fed-by (λ m d l p x. NoFeed (x .line)) (λ m d l p h. h) (λ m d l p x k h r. r) (λ m d l c p x h n r. r)
-
-pub push-length : (line : List ℕ) (b : ℕ) → length (push line b) ≤ kept
-unfolding push
-push-length line b = simp length-take (omega arith)
-
--- ---- a line, or the rest of a piece, at once
-
-unfoldable pub pushAll : List ℕ → List ℕ → List ℕ
-pushAll line [] = line
-pushAll line (b ∷ bs) = pushAll (push line b) bs
-
-pub push-all : (line piece : List ℕ) → length line ≤ kept → pushAll line piece ≡ take kept (line ++ piece)
-unfolding pushAll push
-push-all line [] l = rw append-nil (sym (take-all kept line l))
-push-all line (b ∷ bs) l = push-all (push line b) bs (push-length line b) ∙ take-first kept (line ++ (b ∷ [])) bs ∙ ap (take kept) (append-snoc line b bs)
-
-pub feed-line : (room : ℕ) (e : Engine) (line piece bytes : List ℕ) → NoFeed piece → feed room e line (piece ++ (lineFeed ∷ bytes))
-    ≡ cond (ltb room longest) (record { written = []; engine = e; line = pushAll line piece; left = lineFeed ∷ bytes })
-    (wrote (reply e (callOf (pushAll line piece))) (feed (room - length (reply e (callOf (pushAll line piece)))) (after e (callOf (pushAll line piece))) [] bytes))
-unfolding pushAll
-feed-line room e line piece bytes none = feed-feed room e line bytes
-feed-line room e line piece bytes (byte {b} {bs} n h) = feed-byte room e line b (bs ++ (lineFeed ∷ bytes)) n ∙ feed-line room e (push line b) bs bytes h
-
-pub feed-piece : (room : ℕ) (e : Engine) (line piece : List ℕ) → NoFeed piece → feed room e line piece ≡ record { written = []; engine = e; line = pushAll line piece; left = [] }
-unfolding pushAll
-feed-piece room e line piece none = feed-none room e line
-feed-piece room e line piece (byte {b} {bs} n h) = feed-byte room e line b bs n ∙ feed-piece room e (push line b) bs h
+    behind : (l p : List ℕ) (k : ℕ) → drop (suc (length l) + k) (l ++ (lineFeed ∷ p)) ≡ drop k p
+    behind l p k =
+        let z : suc (length l) + k ≡ length l + suc k = omega arith in
+        rw z (sym (drop-drop (suc k) (length l) (l ++ (lineFeed ∷ p))) ∙ ap (drop (suc k)) (drop-at l (lineFeed ∷ p) (length l) refl))
 
 -- ---- where the first line feed stands
 
@@ -313,39 +294,50 @@ feed-there (b ∷ bs) l = go (eqb b lineFeed) refl l (feed-there bs)
 
 -- ---- a piece from `at` on: a line that ends in it, or its rest
 
-split-there : (chunk : List ℕ) (at : ℕ) → let n : ℕ = feedAt (drop at chunk) in at + n < length chunk → drop at chunk ≡ take n (drop at chunk) ++ (lineFeed ∷ drop (at + n + 1) chunk)
-split-there chunk at l =
-    let n : ℕ = feedAt (drop at chunk) in
+-- without room for the longest answer nothing is done
+fed-no-room : (room : ℕ) (e : Engine) (line bytes : List ℕ) → room < longest → fedFrom room e line bytes ≡ waiting e (line ++ bytes)
+unfolding fedFrom
+fed-no-room room e line [] r = rw append-nil
+fed-no-room room e line (b ∷ bytes) r = rw (lt-ltb room longest r, fed-no-room room e (line ++ (b ∷ [])) bytes r, append-snoc) (same (eqb b lineFeed))
+  where
+    same : (t : Bool) → cond t (waiting e (line ++ (b ∷ bytes))) (waiting e (line ++ (b ∷ bytes))) ≡ waiting e (line ++ (b ∷ bytes))
+    same true = refl
+    same false = refl
+
+pub no-room : (room : ℕ) (e : Engine) (bytes : List ℕ) → room < longest → fed room e bytes ≡ waiting e bytes
+unfolding fed
+no-room room e bytes r = fed-no-room room e [] bytes r
+
+-- nor is it where no line feed is left
+fed-no-more : (room : ℕ) (e : Engine) (line bytes : List ℕ) → NoFeed bytes → fedFrom room e line bytes ≡ waiting e (line ++ bytes)
+unfolding fedFrom
+fed-no-more room e line bytes none = rw append-nil
+fed-no-more room e line bytes (byte {b} {bs} n h) = fed-byte room e line b bs n ∙ fed-no-more room e (line ++ (b ∷ [])) bs h ∙ rw append-snoc
+
+pub no-feed-of : (bytes : List ℕ) → feedAt bytes ≡ length bytes → NoFeed bytes
+no-feed-of bytes q = rw (take-all (feedAt bytes) bytes (omega arith)) at (no-feed-before bytes)
+
+pub no-more : (room : ℕ) (e : Engine) (bytes : List ℕ) → feedAt bytes ≡ length bytes → fed room e bytes ≡ waiting e bytes
+unfolding fed
+no-more room e bytes q = fed-no-more room e [] bytes (no-feed-of bytes q)
+
+-- a line is answered where the longest answer has room
+fed-line : (room : ℕ) (e : Engine) (line piece bytes : List ℕ) → NoFeed piece → longest ≤ room → fedFrom room e line (piece ++ (lineFeed ∷ bytes))
+    ≡ wrote (reply e (callOf (line ++ piece))) (fedFrom (room - length (reply e (callOf (line ++ piece)))) (after e (callOf (line ++ piece))) [] bytes)
+fed-line room e line piece bytes none r = fed-feed room e line bytes ∙ rw (le-ltb room longest r, append-nil)
+fed-line room e line piece bytes (byte {b} {bs} n h) r = fed-byte room e line b (bs ++ (lineFeed ∷ bytes)) n ∙ fed-line room e (line ++ (b ∷ [])) bs bytes h r ∙ rw append-snoc
+
+split-there : (input : List ℕ) (at : ℕ) → let n : ℕ = feedAt (drop at input) in at + n < length input → drop at input ≡ take n (drop at input) ++ (lineFeed ∷ drop (at + n + 1) input)
+split-there input at l =
+    let n : ℕ = feedAt (drop at input) in
     let e : at + suc n ≡ at + n + 1 = omega arith in
-    feed-there (drop at chunk) (omega (arith, length-drop at chunk)) ∙ rw (drop-drop (suc n) at chunk, e)
+    feed-there (drop at input) (omega (arith, length-drop at input)) ∙ rw (drop-drop (suc n) at input, e)
 
-feed-first : (chunk : List ℕ) (at : ℕ) → let n : ℕ = feedAt (drop at chunk) in at + n < length chunk → lineFeed ∷ drop (at + n + 1) chunk ≡ drop (at + n) chunk
-feed-first chunk at l =
-    let n : ℕ = feedAt (drop at chunk) in
-    sym (sym (drop-drop n at chunk) ∙ ap (drop n) (split-there chunk at l) ∙ drop-at (take n (drop at chunk)) _ n (length-take-le n (drop at chunk) (feedAt-le (drop at chunk))))
-
-feed-split : (room : ℕ) (e : Engine) (line chunk : List ℕ) (at : ℕ) → length line ≤ kept
-    → let n : ℕ = feedAt (drop at chunk) in let l : List ℕ = take kept (line ++ take n (drop at chunk)) in at + n < length chunk
-    → feed room e line (drop at chunk) ≡ cond (ltb room longest) (record { written = []; engine = e; line = l; left = lineFeed ∷ drop (at + n + 1) chunk })
-    (wrote (reply e (callOf l)) (feed (room - length (reply e (callOf l))) (after e (callOf l)) [] (drop (at + n + 1) chunk)))
-feed-split room e line chunk at short l =
-    ap (feed room e line) (split-there chunk at l) ∙ feed-line room e line _ _ (no-feed-before (drop at chunk)) ∙ rw (push-all line (take (feedAt (drop at chunk)) (drop at chunk)) short)
-
-pub one-line : (room : ℕ) (e : Engine) (line chunk : List ℕ) (at : ℕ) → length line ≤ kept → at ≤ length chunk
-    → let n : ℕ = feedAt (drop at chunk) in let c : Call = callOf (take kept (line ++ take n (drop at chunk))) in at + n < length chunk → longest ≤ room
-    → feed room e line (drop at chunk) ≡ wrote (reply e c) (feed (room - length (reply e c)) (after e c) [] (drop (at + n + 1) chunk))
-one-line room e line chunk at short within l r = feed-split room e line chunk at short l ∙ rw (le-ltb room longest r)
-
-pub no-room : (room : ℕ) (e : Engine) (line chunk : List ℕ) (at : ℕ) → length line ≤ kept → at ≤ length chunk
-    → let n : ℕ = feedAt (drop at chunk) in at + n < length chunk → room < longest
-    → feed room e line (drop at chunk) ≡ record { written = []; engine = e; line = take kept (line ++ take n (drop at chunk)); left = drop (at + n) chunk }
-no-room room e line chunk at short within l r = feed-split room e line chunk at short l ∙ rw (lt-ltb room longest r, feed-first chunk at l)
-
-pub no-more : (room : ℕ) (e : Engine) (line chunk : List ℕ) (at : ℕ) → length line ≤ kept → at ≤ length chunk
-    → let n : ℕ = feedAt (drop at chunk) in at + n ≡ length chunk → feed room e line (drop at chunk) ≡ record { written = []; engine = e; line = take kept (line ++ drop at chunk); left = [] }
-no-more room e line chunk at short within l =
-    let whole : take (feedAt (drop at chunk)) (drop at chunk) ≡ drop at chunk = take-all (feedAt (drop at chunk)) (drop at chunk) (omega (arith, length-drop at chunk)) in
-    feed-piece room e line (drop at chunk) (rw whole at (no-feed-before (drop at chunk))) ∙ rw (push-all line (drop at chunk) short)
+pub one-line : (room : ℕ) (e : Engine) (input : List ℕ) (at : ℕ)
+    → let n : ℕ = feedAt (drop at input) in let c : Call = callOf (take n (drop at input)) in at + n < length input → longest ≤ room
+    → fed room e (drop at input) ≡ wrote (reply e c) (fed (room - length (reply e c)) (after e c) (drop (at + n + 1) input))
+unfolding fed
+one-line room e input at l r = ap (fedFrom room e []) (split-there input at l) ∙ fed-line room e [] _ _ (no-feed-before (drop at input)) r
 
 -- ---- how long answers are
 
@@ -363,37 +355,74 @@ pub lineOf-length : (a : Answer) (c : Constraint) → length (lineOf a c) ≡ 3 
 unfolding lineOf
 lineOf-length a c = simp (length-append, hex-length) (omega arith)
 
--- a flow that is shown has a number below 8
-shown-lt : (e : Engine) (s f : ℕ) → verdict e (Show s f) ≡ Granted → f < 8
-unfolding verdict flowRows
-shown-lt e s f h = go (leb 16 s) (leb 8 f) refl refl
-  where
-    go : (a b : Bool) → leb 16 s ≡ a → leb 8 f ≡ b → f < 8
-    go true b p q = let z : _≡_ {A = ℕ} 0 1 = cc (rw p at h) in absurd (omega arith)
-    go false true p q = let z : _≡_ {A = ℕ} 0 1 = cc (rw (p, q) at h) in absurd (omega arith)
-    go false false p q = leb-false 8 f q
+-- a constraint that is shown is that of a flow with a place
+abbrev pub Placed : Answer → Type 0
+Placed (Version v) = v ≡ v
+Placed (Roles m) = m ≡ m
+Placed (Flow n k v) = n ≡ n
+Placed Granted = Granted ≡ Granted
+Placed (Answer·Constraint s f) = (s < sessionCount) × (f < flowCount)
+Placed (Refused why) = why ≡ why
 
-values-length : (v : Verdict) (e : Engine) (c : Call) (k : Constraint) → verdict e c ≡ v → length (values (answerOf v e c) k) ≤ 148
-unfolding values answerOf accepted
-values-length (Refused why) e c k h = omega arith
-values-length Granted e (Assign u r) k h = simp hex-length (omega arith)
-values-length Granted e (Withdraw u r) k h = simp hex-length (omega arith)
-values-length Granted e (Permit r d) k h = simp hex-length (omega arith)
-values-length Granted e (Revoke r d) k h = simp hex-length (omega arith)
-values-length Granted e (Forward d x) k h = simp hex-length (omega arith)
-values-length Granted e (Open s) k h = simp hex-length (omega arith)
-values-length Granted e (Conflicting s d) k h = simp hex-length (omega arith)
-values-length Granted e (Add s d m) k h = simp (length-append, hex-length) (omega arith)
-values-length Granted e (Read u s f d) k h = omega arith
-values-length Granted e (Show s f) k h = let l = shown-lt e s f h in simp (length-append, hex-length, roleSets-length) (omega arith)
-values-length Granted e Unreadable k h = omega arith
+-- a flow that is shown is there
+pub show-within : (e : Engine) (s f : ℕ) → verdict e (Session s (Show f)) ≡ Verdict·Granted → (s < sessionCount) × (f < flowCount) × (f < flowsIn (e .sessions) s)
+unfolding returned rows askRows
+show-within e s f h =
+    let p = not-met 1 (leb sessionCount s || leb flowCount f) _ (sym (demand1 e (Session s (Show f)) .number) ∙ ap returned h) in
+    let q = or-neither (leb sessionCount s) (leb flowCount f) (p .0) in
+    let r = not-met 9 (leb (length (seen e .flows s)) f) _ (not-met 5 (not (seen e .opened s)) _ (p .1) .1) in
+    (leb-false sessionCount s (q .0), leb-false flowCount f (q .1), rw (length-flows e s) at (leb-false (length (seen e .flows s)) f (r .0)))
+
+granted-placed : (e : Engine) (c : Call) → verdict e c ≡ Verdict·Granted → Placed (answer e c)
+granted-placed e (Table c) h = rw (demand1 e (Table c) .told h) refl
+granted-placed e (Session s Open) h = rw (demand1 e (Session s Open) .told h) refl
+granted-placed e (Session s (Conflicting root)) h = rw (demand1 e (Session s (Conflicting root)) .told h .1) refl
+granted-placed e (Session s (Add root chosen)) h = rw (demand1 e (Session s (Add root chosen)) .told h) refl
+granted-placed e (Session s (Show f)) h = rw (demand1 e (Session s (Show f)) .told h) (let w = show-within e s f h in (w .0, w .1))
+granted-placed e (Read u s f d) h = rw (demand1 e (Read u s f d) .told h) refl
+granted-placed e Unreadable h = absurd (demand1 e Unreadable .told h)
+
+pub placed : (e : Engine) (c : Call) → Placed (answer e c)
+placed e c = go (verdict e c) refl
+  where
+    go : (v : Verdict) → verdict e c ≡ v → Placed (answer e c)
+    go Verdict·Granted h = granted-placed e c h
+    go (Verdict·Refused why) h = rw (demand1 e c .refused why h .0) refl
+
+-- so it shows no more role sets than a constraint has
+pub few-sets : (a : Answer) → Placed a → shownSets a ≤ flowCount
+unfolding shownSets
+few-sets (Version v) p = omega arith
+few-sets (Roles m) p = omega arith
+few-sets (Flow n k v) p = omega arith
+few-sets Granted p = omega arith
+few-sets (Answer·Constraint s f) p = p .1
+few-sets (Refused why) p = omega arith
+
+pub values-length : (a : Answer) (c : Constraint) → shownSets a ≤ flowCount → length (values a c) ≤ 148
+unfolding values shownSets
+values-length (Version v) c l = simp hex-length (omega arith)
+values-length (Roles m) c l = simp hex-length (omega arith)
+values-length (Flow n k v) c l = simp (length-append, hex-length) (omega arith)
+values-length Granted c l = omega arith
+values-length (Answer·Constraint s f) c l = simp (length-append, hex-length, roleSets-length) (omega arith)
+values-length (Refused why) c l = omega arith
 
 -- an answer fits into the longest line
 pub reply-length : (e : Engine) (c : Call) → length (reply e c) ≤ longest
-unfolding reply answer
-reply-length e c = rw lineOf-length (omega (arith, values-length (verdict e c) e c (constraintOf e c) refl))
+unfolding reply
+reply-length e c = rw lineOf-length (omega (arith, values-length (answer e c) (shownIn (e .sessions) (answer e c)) (few-sets (answer e c) (placed e c))))
 
 -- so what is written of a piece fits into its room
-pub fed-fits : (room : ℕ) (e : Engine) (line bytes : List ℕ) → NoFeed line → length (feed room e line bytes .written) ≤ room
+pub fed-fits : (room : ℕ) (e : Engine) (bytes : List ℕ) → length (fed room e bytes .written) ≤ room
 unfolding wrote
-fed-fits = fed-by (λ m d l p x. length (x .written) ≤ m) (λ m d l p h. omega arith) (λ m d l p x k h r. rw length-append (omega (arith, reply-length d (callOf l)))) (λ m d l c p x h n r. r)
+fed-fits = fed-by (λ m d p x. length (x .written) ≤ m) (λ m d p. omega arith) (λ m d l p x k h r. rw length-append (omega (arith, reply-length d (callOf l))))
+
+-- and a piece with a whole line in it gets shorter where the longest answer has room
+pub fed-shorter : (room : ℕ) (e : Engine) (bytes : List ℕ) → longest ≤ room → feedAt bytes < length bytes → length (fed room e bytes .left) < length bytes
+unfolding wrote
+fed-shorter room e bytes r l =
+    let n : ℕ = feedAt bytes in
+    let c : Call = callOf (take n bytes) in
+    let m : 0 + feedAt bytes < length bytes = omega arith in
+    rw (one-line room e bytes 0 m r) (omega (arith, fed-left (room - length (reply e c)) (after e c) (drop (0 + n + 1) bytes) .0, length-drop (0 + n + 1) bytes))

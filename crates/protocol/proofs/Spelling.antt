@@ -13,11 +13,13 @@ use lib.ListN.{length, getD, take, drop, length-append, length-drop, take-append
 use lib.Seq.{take-all, take-at, drop-at, take-suc, drop-drop}
 use borrow.Author.Tests.{eqb-true, lt-ltb, le-ltb, ltb-true, leb-true, eq-eqb}
 use Rattle.sets.specs.Sets.{has, setOf, some}
-use Rattle.sets.specs.Laws.{true-or-false, and-both, and-true, some-at, members}
-use Rattle.engine.specs.declared.calls.Call.{Call}
-use Rattle.engine.specs.declared.calls.Call.the-variants.{Assign, Withdraw, Permit, Revoke, Forward, Open, Conflicting, Add, Read, Show, Unreadable}
+use Rattle.sets.proofs.Laws.{true-or-false, and-both, and-true, some-at, members}
+use Rattle.model.specs.declared.calls.Change.the-variants.{Assign, Withdraw, Permit, Revoke, Forward}
+use Rattle.model.specs.declared.calls.Ask.the-variants.{Open, Conflicting, Add, Show}
+use Rattle.model.specs.declared.calls.Call.{Call}
+use Rattle.model.specs.declared.calls.Call.the-variants.{Table, Session, Read, Unreadable}
 use Rattle.protocol.specs.Digits.{digit, allDigits, numberFrom, number, glyph, hex}
-use Rattle.protocol.specs.Lines.{field, frame, callOf}
+use Rattle.protocol.specs.Lines.{field, restDigits, called, frame, callOf}
 use Rattle.protocol.proofs.Laws.{hex-length}
 use Rattle.protocol.specs.Specification.{digits, inDigits, bits, M, spelled, HasFrame, Says}
 use Rattle.protocol.specs.Specification.{frame as says-frame, malformed as says-malformed}
@@ -204,12 +206,12 @@ read-quad k a b c d C l m n o p f =
     rest : List ℕ
     rest = hex 2 a ++ r₁
 
-read-add : (s d m : ℕ) → s < 256 → d < 256 → m < 2 ^ 64 → callOf (inDigits 2 8 ++ (inDigits 2 s ++ (inDigits 2 d ++ M (has m)))) ≡ Add s d m
-unfolding M frame
+read-add : (s d m : ℕ) → s < 256 → d < 256 → m < 2 ^ 64 → callOf (inDigits 2 8 ++ (inDigits 2 s ++ (inDigits 2 d ++ M (has m)))) ≡ Session s (Add d m)
+unfolding M frame restDigits called
 read-add s d m l n o =
     simp (digits-hex, bits-set 64 (has m), members 64 m o)
     (read-kind 8 rest (omega arith) (all-append (hex 2 s) r₁ (hex-all 2 s) (all-append (hex 2 d) (hex 16 m) (hex-all 2 d) (hex-all 16 m)))
-    ∙ ap (λ (b : Bool). cond b (Add (field rest 0) (field rest 1) (number (drop 4 rest))) Unreadable) (eq-eqb (length rest) 20 (simp (length-append, hex-length)))
+    ∙ ap (λ (b : Bool). cond b (Session (field rest 0) (Add (field rest 1) (number (drop 4 rest)))) Unreadable) (eq-eqb (length rest) 20 (simp (length-append, hex-length)))
     ∙ rw (
       first-field s r₁ l,
       next-field s r₁ 0,
@@ -227,17 +229,17 @@ read-add s d m l n o =
     rest = hex 2 s ++ r₁
 
 pub read-spelled : (c : Call) → HasFrame c → callOf (spelled c) ≡ c
-unfolding spelled frame
-read-spelled (Assign u r) h = read-pair 1 u r Assign (omega arith) (h .0) (h .1) (λ rest e. rw e)
-read-spelled (Withdraw u r) h = read-pair 2 u r Withdraw (omega arith) (h .0) (h .1) (λ rest e. rw e)
-read-spelled (Permit r d) h = read-pair 3 r d Permit (omega arith) (h .0) (h .1) (λ rest e. rw e)
-read-spelled (Revoke r d) h = read-pair 4 r d Revoke (omega arith) (h .0) (h .1) (λ rest e. rw e)
-read-spelled (Forward d e) h = read-pair 5 d e Forward (omega arith) (h .0) (h .1) (λ rest q. rw q)
-read-spelled (Open s) h = read-one 6 s Open (omega arith) h (λ rest e. rw e)
-read-spelled (Conflicting s d) h = read-pair 7 s d Conflicting (omega arith) (h .0) (h .1) (λ rest e. rw e)
-read-spelled (Add s d m) h = read-add s d m (h .0) (h .1) (h .2)
+unfolding spelled frame restDigits called
+read-spelled (Table (Assign u r)) h = read-pair 1 u r (λ x y. Table (Assign x y)) (omega arith) (h .0) (h .1) (λ rest e. rw e)
+read-spelled (Table (Withdraw u r)) h = read-pair 2 u r (λ x y. Table (Withdraw x y)) (omega arith) (h .0) (h .1) (λ rest e. rw e)
+read-spelled (Table (Permit r d)) h = read-pair 3 r d (λ x y. Table (Permit x y)) (omega arith) (h .0) (h .1) (λ rest e. rw e)
+read-spelled (Table (Revoke r d)) h = read-pair 4 r d (λ x y. Table (Revoke x y)) (omega arith) (h .0) (h .1) (λ rest e. rw e)
+read-spelled (Table (Forward d e)) h = read-pair 5 d e (λ x y. Table (Forward x y)) (omega arith) (h .0) (h .1) (λ rest q. rw q)
+read-spelled (Session s Open) h = read-one 6 s (λ x. Session x Open) (omega arith) h (λ rest e. rw e)
+read-spelled (Session s (Conflicting d)) h = read-pair 7 s d (λ x y. Session x (Conflicting y)) (omega arith) (h .0) (h .1) (λ rest e. rw e)
+read-spelled (Session s (Add d m)) h = read-add s d m (h .0) (h .1) (h .2)
+read-spelled (Session s (Show f)) h = read-pair 10 s f (λ x y. Session x (Show y)) (omega arith) (h .0) (h .1) (λ rest e. rw e)
 read-spelled (Read u s f d) h = read-quad 9 u s f d Read (omega arith) (h .0) (h .1) (h .2) (h .3) (λ rest e. rw e)
-read-spelled (Show s f) h = read-pair 10 s f Show (omega arith) (h .0) (h .1) (λ rest e. rw e)
 read-spelled Unreadable h = absurd h
 
 -- ---- what is read as a call is its frame
@@ -301,67 +303,72 @@ pick : (P : Call → Type 0) (t : Bool) (a b : Call) → (t ≡ true → P a) �
 pick P true a b f p = f refl
 pick P false a b f p = p
 
-module _ (line : List ℕ) (h : allDigits line ≡ true) where
+module _ (line : List ℕ) (h : allDigits line ≡ true) (long : eqb (length (drop 2 line)) (restDigits (number (take 2 line))) ≡ true) where
   tail : List ℕ
   tail = drop 2 line
 
   -- the kind's digits, and the rest
-  of-kind : (k n : ℕ) → (eqb (number (take 2 line)) k && eqb (length (drop 2 line)) n) ≡ true → 1 ≤ n → (line ≡ inDigits 2 k ++ tail) × (length tail ≡ n) × (allDigits tail ≡ true)
+  of-kind : (k n : ℕ) → eqb (number (take 2 line)) k ≡ true → restDigits k ≡ n → 1 ≤ n → (line ≡ inDigits 2 k ++ tail) × (length tail ≡ n) × (allDigits tail ≡ true)
   unfolding tail field
-  of-kind k n t l =
-      let p = and-both (eqb (number (take 2 line)) k) (eqb (length (drop 2 line)) n) t in
-      let e = eqb-true (number (take 2 line)) k (p .0) in
-      let m = eqb-true (length (drop 2 line)) n (p .1) in
+  of-kind k n t q l =
+      let e = eqb-true (number (take 2 line)) k t in
+      let m : length (drop 2 line) ≡ n = eqb-true (length (drop 2 line)) (restDigits (number (take 2 line))) long ∙ ap restDigits e ∙ q in
       let r = first line h (omega (arith, length-drop 2 line)) in
       (r .0 ∙ ap (λ (v : ℕ). hex 2 v ++ drop 2 line) e ∙ ap (λ (xs : List ℕ). xs ++ drop 2 line) (hex-digits 2 k), m, r .2)
 
-  one-framed : (k : ℕ) → (eqb (number (take 2 line)) k && eqb (length (drop 2 line)) 2) ≡ true → (field (drop 2 line) 0 < 256) × (line ≡ inDigits 2 k ++ inDigits 2 (field (drop 2 line) 0))
+  one-framed : (k : ℕ) → eqb (number (take 2 line)) k ≡ true → restDigits k ≡ 2 → (field (drop 2 line) 0 < 256) × (line ≡ inDigits 2 k ++ inDigits 2 (field (drop 2 line) 0))
   unfolding tail
-  one-framed k t =
-      let r = of-kind k 2 t (omega arith) in
+  one-framed k t q =
+      let r = of-kind k 2 t q (omega arith) in
       let f = last-field (drop 2 line) (r .2) (r .1) in
       (f .1, r .0 ∙ ap (λ (xs : List ℕ). inDigits 2 k ++ xs) (f .0 ∙ hex-digits 2 (field (drop 2 line) 0)))
 
-  pair-framed : (k : ℕ) → (eqb (number (take 2 line)) k && eqb (length (drop 2 line)) 4) ≡ true
+  pair-framed : (k : ℕ) → eqb (number (take 2 line)) k ≡ true → restDigits k ≡ 4
       → ((field (drop 2 line) 0 < 256) × (field (drop 2 line) 1 < 256)) × (line ≡ inDigits 2 k ++ (inDigits 2 (field (drop 2 line) 0) ++ inDigits 2 (field (drop 2 line) 1)))
   unfolding tail
-  pair-framed k t =
-      let r = of-kind k 4 t (omega arith) in
+  pair-framed k t q =
+      let r = of-kind k 4 t q (omega arith) in
       let f = pair-back (drop 2 line) (r .2) (r .1) in
       ((f .1, f .2), r .0 ∙ ap (λ (xs : List ℕ). inDigits 2 k ++ xs) (f .0 ∙ simp hex-digits))
 
-  pub framed-digits : Framed line (frame (number (take 2 line)) (drop 2 line))
-  unfolding frame spelled tail M
-  framed-digits =
-      pick (Framed line) _ _ _ (λ t. inr (pair-framed 1 t))
-      (pick (Framed line) _ _ _ (λ t. inr (pair-framed 2 t))
-      (pick (Framed line) _ _ _ (λ t. inr (pair-framed 3 t))
-      (pick (Framed line) _ _ _ (λ t. inr (pair-framed 4 t))
-      (pick (Framed line) _ _ _ (λ t. inr (pair-framed 5 t))
-      (pick (Framed line) _ _ _ (λ t. inr (one-framed 6 t))
-      (pick (Framed line) _ _ _ (λ t. inr (pair-framed 7 t))
+  quad-framed : eqb (number (take 2 line)) 9 ≡ true
+      → HasFrame (Read (field (drop 2 line) 0) (field (drop 2 line) 1) (field (drop 2 line) 2) (field (drop 2 line) 3))
+      × (line ≡ inDigits 2 9 ++ (inDigits 2 (field (drop 2 line) 0) ++ (inDigits 2 (field (drop 2 line) 1) ++ (inDigits 2 (field (drop 2 line) 2) ++ inDigits 2 (field (drop 2 line) 3)))))
+  unfolding tail restDigits
+  quad-framed t =
+      let r = of-kind 9 8 t refl (omega arith) in
+      let f = quad-back (drop 2 line) (r .2) (r .1) in
+      ((f .1, f .2, f .3, f .4), r .0 ∙ ap (λ (xs : List ℕ). inDigits 2 9 ++ xs) (f .0 ∙ simp hex-digits))
+
+  add-framed : eqb (number (take 2 line)) 8 ≡ true
+      → HasFrame (Session (field (drop 2 line) 0) (Add (field (drop 2 line) 1) (number (drop 4 (drop 2 line)))))
+      × (line ≡ inDigits 2 8 ++ (inDigits 2 (field (drop 2 line) 0) ++ (inDigits 2 (field (drop 2 line) 1) ++ inDigits 16 (bits 64 (has (number (drop 4 (drop 2 line))))))))
+  unfolding tail restDigits
+  add-framed t =
+      let r = of-kind 8 20 t refl (omega arith) in
+      let f = add-back (drop 2 line) (r .2) (r .1) in
+      let m = number (drop 4 (drop 2 line)) in (
+        (f .1, f .2, f .3),
+        r .0 ∙ ap (λ (xs : List ℕ). inDigits 2 8 ++ xs) (f .0 ∙ simp (hex-digits, bits-set 64 (has m), members 64 m (f .3))),
+      )
+
+  framed-called : Framed line (called (number (take 2 line)) (drop 2 line))
+  unfolding called spelled M restDigits
+  framed-called =
+      pick (Framed line) _ _ _ (λ t. inr (pair-framed 1 t refl))
+      (pick (Framed line) _ _ _ (λ t. inr (pair-framed 2 t refl))
+      (pick (Framed line) _ _ _ (λ t. inr (pair-framed 3 t refl))
+      (pick (Framed line) _ _ _ (λ t. inr (pair-framed 4 t refl))
+      (pick (Framed line) _ _ _ (λ t. inr (pair-framed 5 t refl))
+      (pick (Framed line) _ _ _ (λ t. inr (one-framed 6 t refl))
+      (pick (Framed line) _ _ _ (λ t. inr (pair-framed 7 t refl))
       (pick (Framed line) _ _ _ (λ t. inr (add-framed t))
       (pick (Framed line) _ _ _ (λ t. inr (quad-framed t))
-      (pick (Framed line) _ _ _ (λ t. inr (pair-framed 10 t)) (inl refl))))))))))
-    where
-      quad-framed : (eqb (number (take 2 line)) 9 && eqb (length (drop 2 line)) 8) ≡ true
-          → HasFrame (Read (field (drop 2 line) 0) (field (drop 2 line) 1) (field (drop 2 line) 2) (field (drop 2 line) 3))
-          × (line ≡ inDigits 2 9 ++ (inDigits 2 (field (drop 2 line) 0) ++ (inDigits 2 (field (drop 2 line) 1) ++ (inDigits 2 (field (drop 2 line) 2) ++ inDigits 2 (field (drop 2 line) 3)))))
-      quad-framed t =
-          let r = of-kind 9 8 t (omega arith) in
-          let f = quad-back (drop 2 line) (r .2) (r .1) in
-          ((f .1, f .2, f .3, f .4), r .0 ∙ ap (λ (xs : List ℕ). inDigits 2 9 ++ xs) (f .0 ∙ simp hex-digits))
+      (pick (Framed line) _ _ _ (λ t. inr (pair-framed 10 t refl)) (inl refl))))))))))
 
-      add-framed : (eqb (number (take 2 line)) 8 && eqb (length (drop 2 line)) 20) ≡ true
-          → HasFrame (Add (field (drop 2 line) 0) (field (drop 2 line) 1) (number (drop 4 (drop 2 line))))
-          × (line ≡ inDigits 2 8 ++ (inDigits 2 (field (drop 2 line) 0) ++ (inDigits 2 (field (drop 2 line) 1) ++ inDigits 16 (bits 64 (has (number (drop 4 (drop 2 line))))))))
-      add-framed t =
-          let r = of-kind 8 20 t (omega arith) in
-          let f = add-back (drop 2 line) (r .2) (r .1) in
-          let m = number (drop 4 (drop 2 line)) in (
-            (f .1, f .2, f .3),
-            r .0 ∙ ap (λ (xs : List ℕ). inDigits 2 8 ++ xs) (f .0 ∙ simp (hex-digits, bits-set 64 (has m), members 64 m (f .3))),
-          )
+framed-digits : (line : List ℕ) → allDigits line ≡ true → Framed line (frame (number (take 2 line)) (drop 2 line))
+unfolding frame
+framed-digits line h = pick (Framed line) _ _ _ (λ t. framed-called line h t) (inl refl)
 
 framed : (line : List ℕ) → Framed line (callOf line)
 unfolding callOf

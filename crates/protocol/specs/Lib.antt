@@ -1,3 +1,4 @@
+pub mod Widths
 pub mod Specification
 pub mod Digits
 pub mod Lines

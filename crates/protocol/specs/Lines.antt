@@ -1,54 +1,73 @@
 -- What a line says, and how an answer is written (document 01, "Frames"). A line is the list of its bytes, without its line feed.
 -- Assumes nothing.
-use Prim.Native.Nat.{ℕ, zero, suc}
+use Prim.Native.Nat.{ℕ, zero, suc, _+_, _*_}
 use mathlib.Core.Bool.{Bool, true, false, cond, not, _&&_}
 use mathlib.Core.List.{List, [], _∷_, _++_}
-use lib.Dec.{eqb}
+use lib.Dec.{eqb, leb}
 use lib.ListN.{length, getD, take, drop}
-use Rattle.engine.specs.declared.Constraint.{Constraint}
-use Rattle.engine.specs.declared.calls.Call.{Call}
-use Rattle.engine.specs.declared.calls.Call.the-variants.{Assign, Withdraw, Permit, Revoke, Forward, Open, Conflicting, Add, Read, Show, Unreadable}
-use Rattle.engine.specs.declared.calls.Answer.{Answer}
-use Rattle.engine.specs.declared.calls.Answer.the-variants.{Version, Roles, Flow, Granted, Constraint as Answer·Constraint, Refused}
-use Rattle.engine.specs.Calls.{numberOf}
+use Rattle.model.specs.declared.Constraint.{Constraint}
+use Rattle.model.specs.declared.calls.Change.the-variants.{Assign, Withdraw, Permit, Revoke, Forward}
+use Rattle.model.specs.declared.calls.Ask.the-variants.{Open, Conflicting, Add, Show}
+use Rattle.model.specs.declared.calls.Call.{Call}
+use Rattle.model.specs.declared.calls.Call.the-variants.{Table, Session, Read, Unreadable}
+use Rattle.model.specs.declared.calls.Answer.{Answer}
+use Rattle.model.specs.declared.calls.Answer.the-variants.{Version, Roles, Flow, Granted, Constraint as Answer·Constraint, Refused}
+use Rattle.model.specs.Calls.{returned, verdictOf}
+use Rattle.protocol.specs.Widths.{fieldDigits, versionDigits, setDigits}
 use Rattle.protocol.specs.Digits.{allDigits, number, hex}
 
 -- ---- reading
 
--- field i of the rest of a line, of two digits each
+-- field i of the rest of a line
 unfoldable pub field : List ℕ → ℕ → ℕ
-field rest zero = number (take 2 rest)
-field rest (suc i) = field (drop 2 rest) i
+field rest zero = number (take fieldDigits rest)
+field rest (suc i) = field (drop fieldDigits rest) i
 
--- what a frame of this kind says, whose fields are the rest of the line: the kinds with their fields, and as many digits as the fields have
-unfoldable pub frame : ℕ → List ℕ → Call
-frame kind rest =
+-- as many digits as n fields have
+abbrev pub fields : ℕ → ℕ
+fields n = fieldDigits * n
+
+-- how many digits stand after the kind; 0 after an unknown one
+unfoldable pub restDigits : ℕ → ℕ
+restDigits kind =
+    cond (eqb kind 0x06) (fields 1)
+    (cond (eqb kind 0x08) (fields 2 + setDigits)
+    (cond (eqb kind 0x09) (fields 4)
+    (cond (leb 0x01 kind && leb kind 0x0a) (fields 2) 0)))
+
+-- the call of this kind whose fields are the rest of the line
+unfoldable pub called : ℕ → List ℕ → Call
+called kind rest =
     -- 01 uu rr
-    cond (eqb kind 0x01 && eqb (length rest) 4) (Assign (field rest 0) (field rest 1))
+    cond (eqb kind 0x01) (Table (Assign (field rest 0) (field rest 1)))
     -- 02 uu rr
-    (cond (eqb kind 0x02 && eqb (length rest) 4) (Withdraw (field rest 0) (field rest 1))
+    (cond (eqb kind 0x02) (Table (Withdraw (field rest 0) (field rest 1)))
     -- 03 rr dd
-    (cond (eqb kind 0x03 && eqb (length rest) 4) (Permit (field rest 0) (field rest 1))
+    (cond (eqb kind 0x03) (Table (Permit (field rest 0) (field rest 1)))
     -- 04 rr dd
-    (cond (eqb kind 0x04 && eqb (length rest) 4) (Revoke (field rest 0) (field rest 1))
+    (cond (eqb kind 0x04) (Table (Revoke (field rest 0) (field rest 1)))
     -- 05 dd ee
-    (cond (eqb kind 0x05 && eqb (length rest) 4) (Forward (field rest 0) (field rest 1))
+    (cond (eqb kind 0x05) (Table (Forward (field rest 0) (field rest 1)))
     -- 06 ss
-    (cond (eqb kind 0x06 && eqb (length rest) 2) (Open (field rest 0))
+    (cond (eqb kind 0x06) (Session (field rest 0) Open)
     -- 07 ss dd
-    (cond (eqb kind 0x07 && eqb (length rest) 4) (Conflicting (field rest 0) (field rest 1))
+    (cond (eqb kind 0x07) (Session (field rest 0) (Conflicting (field rest 1)))
     -- 08 ss dd M
-    (cond (eqb kind 0x08 && eqb (length rest) 20) (Add (field rest 0) (field rest 1) (number (drop 4 rest)))
+    (cond (eqb kind 0x08) (Session (field rest 0) (Add (field rest 1) (number (drop (fields 2) rest))))
     -- 09 uu ss ff dd
-    (cond (eqb kind 0x09 && eqb (length rest) 8) (Read (field rest 0) (field rest 1) (field rest 2) (field rest 3))
+    (cond (eqb kind 0x09) (Read (field rest 0) (field rest 1) (field rest 2) (field rest 3))
     -- 0a ss ff
-    (cond (eqb kind 0x0a && eqb (length rest) 4) (Show (field rest 0) (field rest 1))
-    -- "unknown kind, wrong length"
+    (cond (eqb kind 0x0a) (Session (field rest 0) (Show (field rest 1)))
+    -- "unknown kind"
     Unreadable)))))))))
+
+-- what a frame of this kind says: where the rest has as many digits as its fields
+unfoldable pub frame : ℕ → List ℕ → Call
+frame kind rest = cond (eqb (length rest) (restDigits kind)) (called kind rest) Unreadable
 
 -- the call that a line is: "Two digits give the kind; fields after the kind are taken from the rest of the line"
 unfoldable pub callOf : List ℕ → Call
-callOf line = cond (allDigits line) (frame (number (take 2 line)) (drop 2 line)) Unreadable
+callOf line = cond (allDigits line) (frame (number (take fieldDigits line)) (drop fieldDigits line)) Unreadable
 
 -- ---- writing
 
@@ -58,27 +77,28 @@ lineFeed = 10
 -- n role sets, from flow 0 on
 unfoldable pub roleSets : ℕ → List ℕ → List ℕ
 roleSets zero sets = []
-roleSets (suc n) sets = roleSets n sets ++ hex 16 (getD sets n 0)
+roleSets (suc n) sets = roleSets n sets ++ hex setDigits (getD sets n 0)
 
 -- what follows the first two digits: "for 01–06 the system version, four digits; for 07 the role set; for 08 flow number, count of databases in the reach
--- in two digits each, version; for 09 nothing; for 0a version, deny set, then the role sets from flow 0 on"; "nothing but the number is returned" by a refusal
+-- in two digits each, version; for 09 nothing; for 0a version, deny set, then the role sets from flow 0 on"; "nothing but the number is returned" by a refusal.
+-- The constraint is that of the flow that an answer shows.
 unfoldable pub values : Answer → Constraint → List ℕ
-values (Version v) c = hex 4 v
-values (Roles m) c = hex 16 m
-values (Flow n k v) c = hex 2 n ++ (hex 2 k ++ hex 4 v)
+values (Version v) c = hex versionDigits v
+values (Roles m) c = hex setDigits m
+values (Flow n k v) c = hex fieldDigits n ++ (hex fieldDigits k ++ hex versionDigits v)
 values Granted c = []
-values (Answer·Constraint n) c = hex 4 (c .version) ++ (hex 16 (c .deny) ++ roleSets n (c .roles))
+values (Answer·Constraint s f) c = hex versionDigits (c .version) ++ (hex setDigits (c .deny) ++ roleSets (suc f) (c .roles))
 values (Refused why) c = []
 
--- "00 accepted, else the number refused"
-unfoldable pub returnedBy : Answer → ℕ
-returnedBy (Version v) = 0
-returnedBy (Roles m) = 0
-returnedBy (Flow n k v) = 0
-returnedBy Granted = 0
-returnedBy (Answer·Constraint n) = 0
-returnedBy (Refused why) = numberOf why
+-- how many role sets an answer shows
+unfoldable pub shownSets : Answer → ℕ
+shownSets (Version v) = 0
+shownSets (Roles m) = 0
+shownSets (Flow n k v) = 0
+shownSets Granted = 0
+shownSets (Answer·Constraint s f) = suc f
+shownSets (Refused why) = 0
 
--- the line of an answer, with its line feed
+-- the line of an answer, with its line feed: "two hexadecimal digits (00 accepted, else the number refused)"
 unfoldable pub lineOf : Answer → Constraint → List ℕ
-lineOf a c = hex 2 (returnedBy a) ++ (values a c ++ (lineFeed ∷ []))
+lineOf a c = hex fieldDigits (returned (verdictOf a)) ++ (values a c ++ (lineFeed ∷ []))

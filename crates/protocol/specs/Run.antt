@@ -5,12 +5,16 @@ use mathlib.Core.Bool.{Bool, true, false, cond}
 use mathlib.Core.List.{List, [], _∷_, _++_, map}
 use lib.Dec.{eqb, ltb}
 use lib.ListN.{length, take}
-use Rattle.engine.specs.declared.Constraint.{Constraint}
-use Rattle.engine.specs.declared.Engine.{Engine}
-use Rattle.engine.specs.declared.calls.Call.{Call}
-use Rattle.engine.specs.declared.calls.Call.the-variants.{Assign, Withdraw, Permit, Revoke, Forward, Open, Conflicting, Add, Read, Show, Unreadable}
-use Rattle.engine.specs.State.{fresh, noConstraint, constraintAt}
-use Rattle.engine.specs.Calls.{after, answer}
+use Rattle.model.specs.declared.Constraint.{Constraint}
+use Rattle.model.specs.declared.Sessions.{Sessions}
+use Rattle.model.specs.declared.Engine.{Engine}
+use Rattle.model.specs.declared.calls.Call.{Call}
+use Rattle.model.specs.declared.calls.Call.the-variants.{Unreadable}
+use Rattle.model.specs.declared.calls.Answer.{Answer}
+use Rattle.model.specs.declared.calls.Answer.the-variants.{Version, Roles, Flow, Granted, Constraint as Answer·Constraint, Refused}
+use Rattle.model.specs.State.{fresh}
+use Rattle.model.specs.Calls.{after, answer, constraintAt}
+use Rattle.protocol.specs.Widths.{kept, longest}
 use Rattle.protocol.specs.Lines.{callOf, lineOf, lineFeed}
 
 -- ---- input as lines
@@ -50,23 +54,22 @@ callsOf input = map callOf (split input .lines) ++ lastCall (split input .rest)
 
 -- ---- answers
 
--- the constraint that a question asks for; of no use to any other call
-unfoldable pub constraintOf : Engine → Call → Constraint
-constraintOf e (Assign u r) = noConstraint
-constraintOf e (Withdraw u r) = noConstraint
-constraintOf e (Permit r d) = noConstraint
-constraintOf e (Revoke r d) = noConstraint
-constraintOf e (Forward d x) = noConstraint
-constraintOf e (Open s) = noConstraint
-constraintOf e (Conflicting s d) = noConstraint
-constraintOf e (Add s d m) = noConstraint
-constraintOf e (Read u s f d) = noConstraint
-constraintOf e (Show s f) = constraintAt (e .sessions .constraints) s f
-constraintOf e Unreadable = noConstraint
+-- what a constraint is where none is shown
+abbrev pub noConstraint : Constraint
+noConstraint = record { version = 0; deny = 0; roles = [] }
+
+-- the constraint that an answer shows
+unfoldable pub shownIn : Sessions → Answer → Constraint
+shownIn S (Version v) = noConstraint
+shownIn S (Roles m) = noConstraint
+shownIn S (Flow n k v) = noConstraint
+shownIn S Granted = noConstraint
+shownIn S (Answer·Constraint s f) = constraintAt S s f
+shownIn S (Refused why) = noConstraint
 
 -- "Each line gets one answer line"
 unfoldable pub reply : Engine → Call → List ℕ
-reply e c = lineOf (answer e c) (constraintOf e c)
+reply e c = lineOf (answer e c) (shownIn (e .sessions) (answer e c))
 
 -- each call answered on the engine as the one before left it
 unfoldable pub replies : Engine → List Call → List ℕ
@@ -77,42 +80,38 @@ replies e (c ∷ cs) = reply e c ++ replies (after e c) cs
 unfoldable pub run : List ℕ → List ℕ
 run input = replies fresh (callsOf input)
 
--- ---- the machine: an engine, and the line so far, of which the first 23 bytes are kept (no frame is longer than 22 digits)
+-- ---- the machine: it takes a piece of input line by line, as far as there are whole lines in it and room for their answers
 
-abbrev pub kept : ℕ
-kept = 23
-
-unfoldable pub push : List ℕ → ℕ → List ℕ
-push line b = take kept (line ++ (b ∷ []))
-
--- the longest answer line: a constraint of eight role sets
-abbrev pub longest : ℕ
-longest = 151
-
--- what the machine has written of a piece of input, the engine and the line after it, and what it has left of the piece:
--- it stops at a line feed where there is less room left than the longest answer takes
+-- what it has written of a piece, the engine after that, and what it has left of the piece, from the start of a line on
 pub record Fed : Type 0 where
   pub written : List ℕ
   pub engine : Engine
-  pub line : List ℕ
   pub left : List ℕ
 
 unfoldable pub wrote : List ℕ → Fed → Fed
-wrote bytes x = record { written = bytes ++ x .written; engine = x .engine; line = x .line; left = x .left }
+wrote bytes x = record { written = bytes ++ x .written; engine = x .engine; left = x .left }
 
-unfoldable pub feed : ℕ → Engine → List ℕ → List ℕ → Fed
-feed room e line [] = record { written = []; engine = e; line = line; left = [] }
-feed room e line (b ∷ bs) =
+-- with this line begun: at its line feed it is answered, where the longest answer has room
+unfoldable pub fedFrom : ℕ → Engine → List ℕ → List ℕ → Fed
+fedFrom room e line [] = record { written = []; engine = e; left = line }
+fedFrom room e line (b ∷ bs) =
     cond (eqb b lineFeed)
-    (cond (ltb room longest) (record { written = []; engine = e; line = line; left = b ∷ bs })
-    (let answered : List ℕ = reply e (callOf line) in wrote answered (feed (room - length answered) (after e (callOf line)) [] bs)))
-    (feed room e (push line b) bs)
+    (cond (ltb room longest) (record { written = []; engine = e; left = line ++ (b ∷ bs) })
+    (let answered : List ℕ = reply e (callOf line) in wrote answered (fedFrom (room - length answered) (after e (callOf line)) [] bs)))
+    (fedFrom room e (line ++ (b ∷ [])) bs)
 
--- what is written at the end of input: a line that has begun lacks its line feed
-unfoldable pub finish : Engine → List ℕ → List ℕ
-finish e line = replies e (lastCall line)
+unfoldable pub fed : ℕ → Engine → List ℕ → Fed
+fed room e bytes = fedFrom room e [] bytes
 
 -- how many bytes stand before the first line feed
 unfoldable pub feedAt : List ℕ → ℕ
 feedAt [] = 0
 feedAt (b ∷ bs) = cond (eqb b lineFeed) 0 (suc (feedAt bs))
+
+-- what has to be kept of what is left: all of it, or the first bytes of a line that has no line feed yet
+unfoldable pub keptOf : List ℕ → List ℕ
+keptOf left = cond (ltb (feedAt left) (length left)) left (take kept left)
+
+-- what is written at the end of input: a line that has begun lacks its line feed
+unfoldable pub finish : Engine → List ℕ → List ℕ
+finish e line = replies e (lastCall line)

@@ -9,10 +9,15 @@ use mathlib.Core.Logic.{_≢_}
 use lib.Dec.{ltb}
 use lib.ListN.{length, getD}
 use Rattle.sets.specs.Sets.{has, some, count}
-use Rattle.engine.specs.declared.calls.Call.{Call}
-use Rattle.engine.specs.declared.calls.Call.the-variants.{Assign, Withdraw, Permit, Revoke, Forward, Open, Conflicting, Add, Read, Show, Unreadable}
-use Rattle.engine.specs.Ledger.{Ledger, Flow, start, flowOf, reachOf, isConflicting}
-use Rattle.engine.specs.Refusals.{refusal, accepts, newFlow, taken}
+use Rattle.tables.specs.Tables.{userCount, roleCount, databaseCount}
+use Rattle.model.specs.declared.calls.Change.{Change}
+use Rattle.model.specs.declared.calls.Change.the-variants.{Assign, Withdraw, Permit, Revoke, Forward}
+use Rattle.model.specs.declared.calls.Ask.the-variants.{Open, Conflicting, Add, Show}
+use Rattle.model.specs.declared.calls.Call.{Call}
+use Rattle.model.specs.declared.calls.Call.the-variants.{Table, Session, Read, Unreadable}
+use Rattle.model.specs.Ledger.{Ledger, Flow, start, flowOf, reachOf, isConflicting}
+use Rattle.model.specs.Refusals.{refusal, accepts, newFlow, taken, ledgerStep}
+use Rattle.protocol.specs.Widths.{fieldDigits, versionDigits, setDigits}
 
 -- ---- numbers and sets in digits
 
@@ -25,11 +30,12 @@ unfoldable pub inDigits : ℕ → ℕ → List ℕ
 inDigits zero v = []
 inDigits (suc n) v = inDigits n (v / 16) ++ (getD digits (v % 16) 0 ∷ [])
 
+-- "two digits each", and "the system version, four digits"
 abbrev pub two : ℕ → List ℕ
-two v = inDigits 2 v
+two v = inDigits fieldDigits v
 
-abbrev pub four : ℕ → List ℕ
-four v = inDigits 4 v
+abbrev pub version : ℕ → List ℕ
+version v = inDigits versionDigits v
 
 -- the number whose bit r is 1 for each r below n that is in the set
 unfoldable pub bits : ℕ → (ℕ → Bool) → ℕ
@@ -38,36 +44,43 @@ bits (suc n) set = cond (set n) (2 ^ n) 0 + bits n set
 
 -- "M is sixteen digits, a role set, role 0 the lowest bit."
 unfoldable pub M : (ℕ → Bool) → List ℕ
-M set = inDigits 16 (bits 64 set)
+M set = inDigits setDigits (bits roleCount set)
 
 -- ---- frames
 
 -- the table of frames. "Two digits give the kind"; "uu user, rr role, dd and ee databases, ss session, ff flow: two digits each"
 unfoldable pub spelled : Call → List ℕ
-spelled (Assign u r) = two 0x01 ++ (two u ++ two r)
-spelled (Withdraw u r) = two 0x02 ++ (two u ++ two r)
-spelled (Permit r d) = two 0x03 ++ (two r ++ two d)
-spelled (Revoke r d) = two 0x04 ++ (two r ++ two d)
-spelled (Forward d e) = two 0x05 ++ (two d ++ two e)
-spelled (Open s) = two 0x06 ++ two s
-spelled (Conflicting s d) = two 0x07 ++ (two s ++ two d)
-spelled (Add s d m) = two 0x08 ++ (two s ++ (two d ++ M (has m)))
+spelled (Table (Assign u r)) = two 0x01 ++ (two u ++ two r)
+spelled (Table (Withdraw u r)) = two 0x02 ++ (two u ++ two r)
+spelled (Table (Permit r d)) = two 0x03 ++ (two r ++ two d)
+spelled (Table (Revoke r d)) = two 0x04 ++ (two r ++ two d)
+spelled (Table (Forward d e)) = two 0x05 ++ (two d ++ two e)
+spelled (Session s Open) = two 0x06 ++ two s
+spelled (Session s (Conflicting d)) = two 0x07 ++ (two s ++ two d)
+spelled (Session s (Add d m)) = two 0x08 ++ (two s ++ (two d ++ M (has m)))
 spelled (Read u s f d) = two 0x09 ++ (two u ++ (two s ++ (two f ++ two d)))
-spelled (Show s f) = two 0x0a ++ (two s ++ two f)
+spelled (Session s (Show f)) = two 0x0a ++ (two s ++ two f)
 spelled Unreadable = []
 
--- the calls that have a frame: two digits hold each number, and sixteen the set
+-- a number that two digits hold, and a set that sixteen hold
+abbrev pub Field : ℕ → Type 0
+Field v = v < 16 ^ fieldDigits
+
+abbrev pub Set : ℕ → Type 0
+Set m = m < 16 ^ setDigits
+
+-- the calls that have a frame
 abbrev pub HasFrame : Call → Type 0
-HasFrame (Assign u r) = (u < 256) × (r < 256)
-HasFrame (Withdraw u r) = (u < 256) × (r < 256)
-HasFrame (Permit r d) = (r < 256) × (d < 256)
-HasFrame (Revoke r d) = (r < 256) × (d < 256)
-HasFrame (Forward d e) = (d < 256) × (e < 256)
-HasFrame (Open s) = s < 256
-HasFrame (Conflicting s d) = (s < 256) × (d < 256)
-HasFrame (Add s d m) = (s < 256) × (d < 256) × (m < 2 ^ 64)
-HasFrame (Read u s f d) = (u < 256) × (s < 256) × (f < 256) × (d < 256)
-HasFrame (Show s f) = (s < 256) × (f < 256)
+HasFrame (Table (Assign u r)) = Field u × Field r
+HasFrame (Table (Withdraw u r)) = Field u × Field r
+HasFrame (Table (Permit r d)) = Field r × Field d
+HasFrame (Table (Revoke r d)) = Field r × Field d
+HasFrame (Table (Forward d e)) = Field d × Field e
+HasFrame (Session s Open) = Field s
+HasFrame (Session s (Conflicting d)) = Field s × Field d
+HasFrame (Session s (Add d m)) = Field s × Field d × Set m
+HasFrame (Read u s f d) = Field u × Field s × Field f × Field d
+HasFrame (Session s (Show f)) = Field s × Field f
 HasFrame Unreadable = ⊥
 
 -- ---- input as lines
@@ -101,11 +114,11 @@ pub record Book : Type 0 where
 
 -- "Role o overlaps role r if some user holds both; .. Then r is a parent of o."
 unfoldable pub isParent : Ledger → ℕ → ℕ → Bool
-isParent l r o = some 256 (λ u. l .holds u o && l .holds u r)
+isParent l r o = some userCount (λ u. l .holds u o && l .holds u r)
 
 -- "the roles that may, at this addition, read a database in that flow's reach and are a parent of some role in the deny set"
 unfoldable pub inRoleSet : Ledger → Flow → Flow → ℕ → Bool
-inRoleSet l new that r = some 64 (λ d. that .reach d && l .mayRead r d) && some 64 (λ o. new .deny o && isParent l r o)
+inRoleSet l new that r = some databaseCount (λ d. that .reach d && l .mayRead r d) && some roleCount (λ o. new .deny o && isParent l r o)
 
 -- a flow that is there now and was not before gets its role sets by the ledger now, whose tables are those of the addition; "older constraints stay"
 unfoldable pub setsNow : Book → Ledger → (s f g r : ℕ) → Bool
@@ -114,7 +127,7 @@ setsNow b now s f g =
 
 -- after a call
 unfoldable pub next : Book → Call → Book
-next b c = record { ledger = taken (b .ledger) c; sets = setsNow b (taken (b .ledger) c) }
+next b c = record { ledger = ledgerStep (b .ledger) c; sets = setsNow b (ledgerStep (b .ledger) c) }
 
 -- before the first call there is no flow, so there are no role sets
 unfoldable pub blank : Book
@@ -130,20 +143,16 @@ setsOf (suc n) sets = setsOf n sets ++ M (sets n)
 -- "and if accepted: .."
 unfoldable pub told : Book → Call → List ℕ
 -- "for 01–06 the system version, four digits"
-told b (Assign u r) = four (taken (b .ledger) (Assign u r) .system)
-told b (Withdraw u r) = four (taken (b .ledger) (Withdraw u r) .system)
-told b (Permit r d) = four (taken (b .ledger) (Permit r d) .system)
-told b (Revoke r d) = four (taken (b .ledger) (Revoke r d) .system)
-told b (Forward d e) = four (taken (b .ledger) (Forward d e) .system)
-told b (Open s) = four (taken (b .ledger) (Open s) .system)
+told b (Table c) = version (taken (b .ledger) (Table c) .system)
+told b (Session s Open) = version (taken (b .ledger) (Session s Open) .system)
 -- "for 07 the role set": the conflicting roles "with a flow of root dd counted in but not added"
-told b (Conflicting s d) = M (isConflicting (b .ledger) s (newFlow (b .ledger) s d 0))
+told b (Session s (Conflicting d)) = M (isConflicting (b .ledger) s (newFlow (b .ledger) s d 0))
 -- "for 08 flow number, count of databases in the reach (1 to 64) in two digits each, version"
-told b (Add s d m) = two (length (b .ledger .flows s)) ++ (two (count 64 (reachOf (b .ledger) d)) ++ four (b .ledger .system))
+told b (Session s (Add d m)) = two (length (b .ledger .flows s)) ++ (two (count databaseCount (reachOf (b .ledger) d)) ++ version (b .ledger .system))
 -- "for 09 nothing"
 told b (Read u s f d) = []
 -- "for 0a version, deny set, then the role sets from flow 0 on"
-told b (Show s f) = four (flowOf (b .ledger) s f .version) ++ (M (flowOf (b .ledger) s f .deny) ++ setsOf (suc f) (b .sets s f))
+told b (Session s (Show f)) = version (flowOf (b .ledger) s f .version) ++ (M (flowOf (b .ledger) s f .deny) ++ setsOf (suc f) (b .sets s f))
 told b Unreadable = []
 
 -- "Each line gets one answer line, ended by a line feed: two hexadecimal digits (00 accepted, else the number refused), and if accepted: .."

@@ -2,5 +2,3 @@ pub mod Rows
 pub mod Reach
 pub mod Tables
 pub mod Meaning
-pub mod Paths
-pub mod Laws

@@ -1,19 +1,52 @@
-// The questions on lent tables, for a caller that keeps its tables and wants no copy made.
+// The tables on lent rows, for a caller that keeps its tables and wants no copy made.
 use super::Tables;
 ghost use mathlib.Core.Path.{_≡_};
-ghost use Rattle.tables.specs.Rows.{there, image};
+ghost use lib.ListN.{getD, set};
+ghost use Rattle.tables.specs.Rows.{there, entered, struck, image};
 ghost use Rattle.tables.specs.Reach.{level, reach};
 ghost use Rattle.tables.specs.Tables.{userCount, roleCount, databaseCount};
 ghost use Rattle.tables.specs.Tables.{heldBy, parentsOf, readersOf, staticallyReads};
+
+// Row a of a table; past the last row it is empty.
+pub fn row(rows: &[u64], a: usize) -> u64
+    ensures { λ r. ⌜ r ≡ getD (now (rows .entry)) a 0 ⌝ }
+{
+    if rows.len() <= a {
+        return 0;
+    }
+    rows[a]
+}
+
+// Row a of a table is stored; past the last row there is none to store.
+fn put(rows: &mut [u64], a: usize, new: u64)
+    ensures { λ _. ⌜ now (rows .exit) ≡ set (now (rows .entry)) a new ⌝ }
+{
+    if a < rows.len() {
+        rows[a] = new;
+    }
+}
+
+// The pair (a, b) is entered in a table.
+pub fn enter(rows: &mut [u64], a: usize, b: usize)
+    ensures { λ _. ⌜ now (rows .exit) ≡ entered roleCount (now (rows .entry)) a b ⌝ }
+{
+    let old = row(rows, a);
+    put(rows, a, sets::insert(old, b));
+}
+
+// The pair (a, b) is struck out of a table.
+pub fn strike(rows: &mut [u64], a: usize, b: usize)
+    ensures { λ _. ⌜ now (rows .exit) ≡ struck roleCount (now (rows .entry)) a b ⌝ }
+{
+    let old = row(rows, a);
+    put(rows, a, sets::remove(old, b));
+}
 
 // Whether the pair (a, b) is in a table.
 pub fn there(rows: &[u64], a: usize, b: usize) -> bool
     ensures { λ r. ⌜ r ≡ there (now (rows .entry)) a b ⌝ }
 {
-    if rows.len() <= a {
-        return false;
-    }
-    sets::contains(rows[a], b)
+    sets::contains(row(rows, a), b)
 }
 
 // Whether anybody holds role r.
@@ -68,11 +101,8 @@ pub fn readers(readers: &[u64; Tables::DATABASES], s: u64) -> u64
 pub fn reads<'a>(roles: &'a [u64], readers: &'a [u64; Tables::DATABASES], u: usize, s: u64) -> bool
     ensures { λ b. ⌜ b ≡ staticallyReads roleCount databaseCount (now (roles .entry)) (now (readers .entry)) u s ⌝ }
 {
-    if roles.len() <= u {
-        return false;
-    }
     let may = image(readers, s);
-    sets::meets(roles[u], may)
+    sets::meets(row(roles, u), may)
 }
 
 // The parents of the roles of s.

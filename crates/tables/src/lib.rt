@@ -43,9 +43,9 @@ impl Tables {
     pub fn assign(mut self, u: usize, r: usize) -> Self
         ensures { λ t. ⌜ t ≡ assigned self u r ⌝ }
     {
-        if u < Self::USERS {
-            self.roles[u] = sets::insert(self.roles[u], r);
-        }
+        let mut rows = self.roles;
+        lent::enter(&mut rows, u, r);
+        self.roles = rows;
         self
     }
 
@@ -53,9 +53,9 @@ impl Tables {
     pub fn withdraw(mut self, u: usize, r: usize) -> Self
         ensures { λ t. ⌜ t ≡ withdrawn self u r ⌝ }
     {
-        if u < Self::USERS {
-            self.roles[u] = sets::remove(self.roles[u], r);
-        }
+        let mut rows = self.roles;
+        lent::strike(&mut rows, u, r);
+        self.roles = rows;
         self
     }
 
@@ -63,9 +63,9 @@ impl Tables {
     pub fn permit(mut self, r: usize, d: usize) -> Self
         ensures { λ t. ⌜ t ≡ permitted self r d ⌝ }
     {
-        if d < Self::DATABASES {
-            self.readers[d] = sets::insert(self.readers[d], r);
-        }
+        let mut rows = self.readers;
+        lent::enter(&mut rows, d, r);
+        self.readers = rows;
         self
     }
 
@@ -73,9 +73,9 @@ impl Tables {
     pub fn revoke(mut self, r: usize, d: usize) -> Self
         ensures { λ t. ⌜ t ≡ revoked self r d ⌝ }
     {
-        if d < Self::DATABASES {
-            self.readers[d] = sets::remove(self.readers[d], r);
-        }
+        let mut rows = self.readers;
+        lent::strike(&mut rows, d, r);
+        self.readers = rows;
         self
     }
 
@@ -83,9 +83,9 @@ impl Tables {
     pub fn forward(mut self, d: usize, e: usize) -> Self
         ensures { λ t. ⌜ t ≡ forwarded self d e ⌝ }
     {
-        if d < Self::DATABASES {
-            self.forwards[d] = sets::insert(self.forwards[d], e);
-        }
+        let mut rows = self.forwards;
+        lent::enter(&mut rows, d, e);
+        self.forwards = rows;
         self
     }
 
@@ -93,9 +93,9 @@ impl Tables {
     pub fn unforward(mut self, d: usize, e: usize) -> Self
         ensures { λ t. ⌜ t ≡ unforwarded self d e ⌝ }
     {
-        if d < Self::DATABASES {
-            self.forwards[d] = sets::remove(self.forwards[d], e);
-        }
+        let mut rows = self.forwards;
+        lent::strike(&mut rows, d, e);
+        self.forwards = rows;
         self
     }
 

@@ -8,28 +8,25 @@ use Rattle.linkage.proofs.main.Statement.{statement}
 use Rattle.linkage.proofs.main.Tie as tie
 
 abbrev Inv-loop : tie.InvT-loop
-Inv-loop input₀ output₀ stream₀ turns₀ input output stream turns = (65536 ≡ length input) × (65536 ≡ length output)
+Inv-loop roles₀ readers₀ forwards₀ users₀ version₀ opened₀ counts₀ roots₀ reaches₀ versions₀ denies₀ rolesets₀ input₀ output₀ len₀ turns₀ roles readers forwards users version opened counts roots reaches versions denies rolesets input output len turns = (65536 ≡ length input) × (65536 ≡ length output)
 
 abbrev μ-loop : tie.MeasureT-loop
-μ-loop input₀ output₀ stream₀ turns₀ input output stream turns = turns
+μ-loop roles₀ readers₀ forwards₀ users₀ version₀ opened₀ counts₀ roots₀ reaches₀ versions₀ denies₀ rolesets₀ input₀ output₀ len₀ turns₀ roles readers forwards users version opened counts roots reaches versions denies rolesets input output len turns = turns
 
 large-buffer-requires : tie.Need-large-buffer-requires Inv-loop μ-loop
-large-buffer-requires c κs = tt
+large-buffer-requires c κs = search needs
 
 large-buffer-requires-2 : tie.Need-large-buffer-requires-2 Inv-loop μ-loop
-large-buffer-requires-2 c κs = tt
-
-new-requires : tie.Need-new-requires Inv-loop μ-loop
-new-requires c κs = tt
+large-buffer-requires-2 c κs = search needs
 
 loop-holds : tie.Need-loop-holds Inv-loop μ-loop
 loop-holds c = search needs
 
-slice-aggregate-read-some : tie.Need-slice-aggregate-read-some Inv-loop μ-loop
-slice-aggregate-read-some c = search needs
+slice-aggregate-read-behind : tie.Need-slice-aggregate-read-behind Inv-loop μ-loop
+slice-aggregate-read-behind c = search needs
 
-read-some-requires : tie.Need-read-some-requires Inv-loop μ-loop
-read-some-requires c κs = search needs
+read-behind-requires : tie.Need-read-behind-requires Inv-loop μ-loop
+read-behind-requires c κs = search needs
 
 array-share-prefix-input : tie.Need-array-share-prefix-input Inv-loop μ-loop
 array-share-prefix-input c = search needs
@@ -46,11 +43,21 @@ feed-all-requires c κs = search needs
 returns : tie.Need-returns Inv-loop μ-loop
 returns c = search needs
 
+slice-aggregate-keep : tie.Need-slice-aggregate-keep Inv-loop μ-loop
+slice-aggregate-keep c = search needs
+
+keep-requires : tie.Need-keep-requires Inv-loop μ-loop
+keep-requires c κs = search needs
+
 sub-turns : tie.Need-sub-turns Inv-loop μ-loop
-sub-turns c = omega arith
+sub-turns c =
+    let h = c .before .before .before .before .before .before .before .before .before .before .before .before .before .before .before .before .before .before .before .before .before .before .before .before .before .loop-test .taken in
+    omega arith
 
 loop-less : tie.Need-loop-less Inv-loop μ-loop
-loop-less c = omega arith
+loop-less c =
+    let h = c .before .before .before .before .before .before .before .before .before .before .before .before .before .before .before .before .before .before .before .before .before .before .before .before .before .loop-test .taken in
+    omega arith
 
 loop-again : tie.Need-loop-again Inv-loop μ-loop
 loop-again c = search needs
@@ -65,4 +72,26 @@ returns-2 : tie.Need-returns-2 Inv-loop μ-loop
 returns-2 c = search needs
 
 pub main-spec : {M : Type 1} → statement M
-main-spec = tie.close (tie.spec Inv-loop μ-loop large-buffer-requires large-buffer-requires-2 new-requires loop-holds slice-aggregate-read-some read-some-requires array-share-prefix-input slice-aggregate-feed-all slice-aggregate-feed-all-2 feed-all-requires returns sub-turns loop-less loop-again slice-aggregate-end end-requires returns-2)
+main-spec =
+    tie.close
+    (tie.spec
+    Inv-loop
+    μ-loop
+    large-buffer-requires
+    large-buffer-requires-2
+    loop-holds
+    slice-aggregate-read-behind
+    read-behind-requires
+    array-share-prefix-input
+    slice-aggregate-feed-all
+    slice-aggregate-feed-all-2
+    feed-all-requires
+    returns
+    slice-aggregate-keep
+    keep-requires
+    sub-turns
+    loop-less
+    loop-again
+    slice-aggregate-end
+    end-requires
+    returns-2)

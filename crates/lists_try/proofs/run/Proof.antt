@@ -1,38 +1,77 @@
--- `lists_try::run` is safe and ends. The measure is the number of turns that are left, and nothing has to hold from turn to turn.
+-- `lists_try::run` is safe and ends. The measure is the number of turns that are left; from turn to turn the buffer keeps its length.
 -- Assumes nothing.
+use mathlib.Core.Path.{_≡_}
+use lib.ListN.{length}
 use native.Mathlib.Omega.{arith}
+use borrow.Author.Needs.{needs}
 use Rattle.lists_try.proofs.run.Statement.{statement}
 use Rattle.lists_try.proofs.run.Tie as tie
 
 abbrev Inv-loop : tie.InvT-loop
-Inv-loop fd stream₀ turns₀ stream turns = Unit {0}
+Inv-loop fd roles₀ readers₀ forwards₀ users₀ version₀ opened₀ counts₀ roots₀ reaches₀ versions₀ denies₀ rolesets₀ input₀ len₀ turns₀ roles readers forwards users version opened counts roots reaches versions denies rolesets input len turns = 1000 ≡ length input
 
 abbrev μ-loop : tie.MeasureT-loop
-μ-loop fd stream₀ turns₀ stream turns = turns
-
-new-requires : tie.Need-new-requires Inv-loop μ-loop
-new-requires c κs = tt
+μ-loop fd roles₀ readers₀ forwards₀ users₀ version₀ opened₀ counts₀ roots₀ reaches₀ versions₀ denies₀ rolesets₀ input₀ len₀ turns₀ roles readers forwards users version opened counts roots reaches versions denies rolesets input len turns = turns
 
 loop-holds : tie.Need-loop-holds Inv-loop μ-loop
-loop-holds c = tt
+loop-holds c = search needs
 
-read-some-requires : tie.Need-read-some-requires Inv-loop μ-loop
-read-some-requires c κs = tt
+slice-aggregate-read-behind : tie.Need-slice-aggregate-read-behind Inv-loop μ-loop
+slice-aggregate-read-behind c = search needs
+
+read-behind-requires : tie.Need-read-behind-requires Inv-loop μ-loop
+read-behind-requires c κs = search needs
+
+array-share-prefix-input : tie.Need-array-share-prefix-input Inv-loop μ-loop
+array-share-prefix-input c = search needs
+
+slice-aggregate-feed-all : tie.Need-slice-aggregate-feed-all Inv-loop μ-loop
+slice-aggregate-feed-all c = search needs
+
+feed-all-requires : tie.Need-feed-all-requires Inv-loop μ-loop
+feed-all-requires c κs = search needs
+
+slice-aggregate-keep : tie.Need-slice-aggregate-keep Inv-loop μ-loop
+slice-aggregate-keep c = search needs
+
+keep-requires : tie.Need-keep-requires Inv-loop μ-loop
+keep-requires c κs = search needs
 
 sub-turns : tie.Need-sub-turns Inv-loop μ-loop
-sub-turns c = omega arith
+sub-turns c =
+    let h = c .before .before .before .before .before .before .before .before .before .before .before .before .before .before .before .before .before .before .before .before .before .loop-test .taken in
+    omega arith
 
 loop-less : tie.Need-loop-less Inv-loop μ-loop
-loop-less c = omega arith
+loop-less c =
+    let h = c .before .before .before .before .before .before .before .before .before .before .before .before .before .before .before .before .before .before .before .before .before .loop-test .taken in
+    omega arith
 
 loop-again : tie.Need-loop-again Inv-loop μ-loop
-loop-again c = tt
+loop-again c = search needs
 
 end-requires : tie.Need-end-requires Inv-loop μ-loop
-end-requires c κs = tt
+end-requires c κs = search needs
 
 returns : tie.Need-returns Inv-loop μ-loop
-returns c = tt
+returns c = search needs
 
 pub run-spec : {M : Type 1} → statement M
-run-spec = tie.close (tie.spec Inv-loop μ-loop new-requires loop-holds read-some-requires sub-turns loop-less loop-again end-requires returns)
+run-spec =
+    tie.close
+    (tie.spec
+    Inv-loop
+    μ-loop
+    loop-holds
+    slice-aggregate-read-behind
+    read-behind-requires
+    array-share-prefix-input
+    slice-aggregate-feed-all
+    feed-all-requires
+    slice-aggregate-keep
+    keep-requires
+    sub-turns
+    loop-less
+    loop-again
+    end-requires
+    returns)

@@ -1,7 +1,7 @@
 use borrow.Author.Needs.{needs}
 use mathlib.Core.Path.{sym}
 use Rattle.sets.specs.Sets.{has}
-use Rattle.sets.specs.Laws.{has-high}
+use Rattle.sets.proofs.Laws.{has-high}
 use Rattle.sets.proofs.contains.Statement.{statement}
 use Rattle.sets.proofs.contains.Tie as tie
 

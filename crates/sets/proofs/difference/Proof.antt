@@ -1,4 +1,4 @@
-use Rattle.sets.specs.Laws.{difference-law}
+use Rattle.sets.proofs.Laws.{difference-law}
 use Rattle.sets.proofs.difference.Statement.{statement}
 use Rattle.sets.proofs.difference.Tie as tie
 

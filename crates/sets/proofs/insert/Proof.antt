@@ -1,5 +1,5 @@
 use borrow.Author.Needs.{needs}
-use Rattle.sets.specs.Laws.{insert-law, insert-out}
+use Rattle.sets.proofs.Laws.{insert-law, insert-out}
 use Rattle.sets.proofs.insert.Statement.{statement}
 use Rattle.sets.proofs.insert.Tie as tie
 

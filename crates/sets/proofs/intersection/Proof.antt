@@ -1,4 +1,4 @@
-use Rattle.sets.specs.Laws.{share-law}
+use Rattle.sets.proofs.Laws.{share-law}
 use Rattle.sets.proofs.intersection.Statement.{statement}
 use Rattle.sets.proofs.intersection.Tie as tie
 

@@ -1,4 +1,4 @@
-use Rattle.sets.specs.Laws.{meet-law}
+use Rattle.sets.proofs.Laws.{meet-law}
 use Rattle.sets.proofs.meets.Statement.{statement}
 use Rattle.sets.proofs.meets.Tie as tie
 

@@ -1,5 +1,5 @@
 use borrow.Author.Needs.{needs}
-use Rattle.sets.specs.Laws.{remove-law, remove-out}
+use Rattle.sets.proofs.Laws.{remove-law, remove-out}
 use Rattle.sets.proofs.remove.Statement.{statement}
 use Rattle.sets.proofs.remove.Tie as tie
 

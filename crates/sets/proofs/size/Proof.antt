@@ -1,4 +1,4 @@
-use Rattle.sets.specs.Laws.{size-law}
+use Rattle.sets.proofs.Laws.{size-law}
 use Rattle.sets.proofs.size.Statement.{statement}
 use Rattle.sets.proofs.size.Tie as tie
 

@@ -1,4 +1,4 @@
-use Rattle.sets.specs.Laws.{join-law}
+use Rattle.sets.proofs.Laws.{join-law}
 use Rattle.sets.proofs.union.Statement.{statement}
 use Rattle.sets.proofs.union.Tie as tie
 

@@ -1,6 +1,6 @@
 -- The table is the definition's.
 use borrow.Author.Needs.{needs}
-use Rattle.engine.specs.Calls.{numberOf}
+use Rattle.model.specs.Calls.{numberOf}
 use Rattle.frames.proofs.write.number.Statement.{statement}
 use Rattle.frames.proofs.write.number.Tie as tie
 

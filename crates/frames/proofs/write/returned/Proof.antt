@@ -1,15 +1,15 @@
 -- The cases are the definition's.
 use borrow.Author.Needs.{needs}
-use Rattle.protocol.specs.Lines.{returnedBy}
+use Rattle.model.specs.Calls.{returned, verdictOf}
 use Rattle.frames.proofs.write.returned.Statement.{statement}
 use Rattle.frames.proofs.write.returned.Tie as tie
 
 returns : tie.Need-returns
-unfolding returnedBy
+unfolding returned verdictOf
 returns c = rw (c .before .before .a .given .1) (c .number .ensures)
 
 pub returned-spec : {M : Type 1} → statement M
-unfolding returnedBy
+unfolding returned verdictOf
 returned-spec =
     tie.close
     (tie.spec

@@ -7,19 +7,16 @@ use Rattle.frames.proofs.write.write_hex.Statement.{statement}
 use Rattle.frames.proofs.write.write_hex.Tie as tie
 
 abbrev Inv-loop : tie.InvT-loop
-Inv-loop v n out₀ at x₀ k₀ out x k = Digits out₀ at n v out x k
+Inv-loop glyphs v n out₀ at x₀ k₀ out x k = Digits out₀ at n v out x k
 
 abbrev μ-loop : tie.MeasureT-loop
-μ-loop v n out₀ at x₀ k₀ out x k = k
+μ-loop glyphs v n out₀ at x₀ k₀ out x k = k
 
 loop-holds : tie.Need-loop-holds Inv-loop μ-loop
 loop-holds c = digits-start _ _ _ _
 
 sub-k : tie.Need-sub-k Inv-loop μ-loop
 sub-k c = omega arith
-
-glyph-requires : tie.Need-glyph-requires Inv-loop μ-loop
-glyph-requires c κs = search needs
 
 add-out : tie.Need-add-out Inv-loop μ-loop
 add-out c = omega arith
@@ -31,7 +28,7 @@ loop-less : tie.Need-loop-less Inv-loop μ-loop
 loop-less c = omega arith
 
 loop-again : tie.Need-loop-again Inv-loop μ-loop
-loop-again c = digits-step _ (c .before .before .loop .inv) (search needs) (omega arith) (c .glyph .ensures)
+loop-again c = digits-step (c .before .before .before .pre .0) (c .before .before .loop .inv) (c .before .before .before .pre .1) (omega arith)
 
 add-result : tie.Need-add-result Inv-loop μ-loop
 add-result c = omega arith
@@ -42,7 +39,21 @@ same-length c = omega arith
 returns : tie.Need-returns Inv-loop μ-loop
 returns c =
     let e : c .before .loop .k ≡ 0 = omega arith in
-    digits-done (rw e at (c .before .loop .inv)) (search needs)
+    digits-done (rw e at (c .before .loop .inv)) (c .before .before .pre .1)
 
 pub write-hex-spec : {M : Type 1} → statement M
-write-hex-spec = tie.close (tie.spec Inv-loop μ-loop loop-holds sub-k glyph-requires add-out slice-write-out loop-less loop-again add-result same-length returns)
+write-hex-spec =
+    tie.close
+    (tie.spec
+    Inv-loop
+    μ-loop
+    loop-holds
+    sub-k
+    (λ c. search needs)
+    add-out
+    slice-write-out
+    loop-less
+    loop-again
+    add-result
+    same-length
+    returns)

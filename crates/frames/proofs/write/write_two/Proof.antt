@@ -10,15 +10,15 @@ slice-write-out-2 : tie.Need-slice-write-out-2
 slice-write-out-2 c = simp length-set (omega arith)
 
 returns : tie.Need-returns
-returns c = wrote-two _ _ _ _ _ (c .before .before .before .pre) (c .before .glyph .ensures) (c .glyph2 .ensures)
+returns c = wrote-two _ _ _ _ (c .before .before .pre .0) (c .before .before .pre .1)
 
 pub write-two-spec : {M : Type 1} → statement M
 write-two-spec =
     tie.close
     (tie.spec
-    (λ c κs. search needs)
     (λ c. search needs)
-    (λ c κs. search needs)
+    (λ c. search needs)
+    (λ c. search needs)
     (λ c. search needs)
     slice-write-out-2
     (λ c. search needs)

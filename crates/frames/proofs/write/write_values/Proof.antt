@@ -1,10 +1,28 @@
--- Each arm writes the fields of the definition's case, one after the other.
+-- Each arm writes what the definition's case says.
+use native.Mathlib.Numerals.{add-one}
 use native.Mathlib.Omega.{arith}
 use borrow.Author.Needs.{needs}
 use Rattle.protocol.specs.Lines.{values}
-use Rattle.frames.proofs.Writing.{wrote-nothing, wrote-both, length-hex}
+use Rattle.frames.proofs.Writing.{wrote-nothing, shown-below}
 use Rattle.frames.proofs.write.write_values.Statement.{statement}
 use Rattle.frames.proofs.write.write_values.Tie as tie
+
+write-hex-requires : tie.Need-write-hex-requires
+write-hex-requires c κs = (c .before .before .before .before .before .before .pre .0, omega arith)
+
+write-hex-requires-2 : tie.Need-write-hex-requires-2
+write-hex-requires-2 c κs = (c .before .before .before .before .before .before .pre .0, omega arith)
+
+write-flow-requires : tie.Need-write-flow-requires
+write-flow-requires c κs = (c .before .before .before .before .before .before .pre .0, omega arith)
+
+add-write-constraint : tie.Need-add-write-constraint
+add-write-constraint c = omega (arith, shown-below _ _ _ (c .before .a4 .given .1) (c .before .before .before .before .before .pre .1 .0 .0))
+
+write-constraint-requires : tie.Need-write-constraint-requires
+write-constraint-requires c κs =
+    let l = shown-below _ _ _ (c .before .before .a4 .given .1) (c .before .before .before .before .before .before .pre .1 .0 .0) in
+    (c .before .before .before .before .before .before .pre .0, (omega arith, omega arith))
 
 -- a version
 returns : tie.Need-returns
@@ -17,15 +35,9 @@ unfolding values
 returns-2 c = rw (c .before .before .before .before .before .a2 .given .1) (c .before .before .write-hex2 .ensures)
 
 -- a flow
-write-two-requires-2 : tie.Need-write-two-requires-2
-write-two-requires-2 c κs = omega (arith, rw length-hex at (c .before .before .before .write-two .ensures .place))
-
-write-hex-requires-3 : tie.Need-write-hex-requires-3
-write-hex-requires-3 c κs = omega (arith, rw length-hex at (c .before .before .before .before .before .before .before .write-two .ensures .place), rw length-hex at (c .before .before .before .write-two2 .ensures .place))
-
 returns-3 : tie.Need-returns-3
 unfolding values
-returns-3 c = rw (c .before .before .before .before .before .before .before .before .before .before .before .before .before .a3 .given .1) (wrote-both (c .before .before .before .before .before .before .before .before .before .before .write-two .ensures) (wrote-both (c .before .before .before .before .before .before .write-two2 .ensures) (c .before .before .write-hex3 .ensures)))
+returns-3 c = rw (c .before .before .before .before .before .a3 .given .1) (c .before .before .write-flow .ensures)
 
 -- a read that was granted
 returns-4 : tie.Need-returns-4
@@ -33,17 +45,9 @@ unfolding values
 returns-4 c = rw (c .enum-told .given .1) (wrote-nothing _ _ (omega arith))
 
 -- a constraint
-write-hex-requires-5 : tie.Need-write-hex-requires-5
-write-hex-requires-5 c κs = omega (arith, rw length-hex at (c .before .before .before .write-hex4 .ensures .place))
-
-write-sets-requires : tie.Need-write-sets-requires
-write-sets-requires c κs =
-    let few = rw (c .before .before .before .before .before .before .before .before .before .before .before .before .a4 .given .1) at (c .before .before .before .before .before .before .before .before .before .before .before .before .before .before .before .pre .0) in
-    (few, omega (arith, rw length-hex at (c .before .before .before .before .before .before .before .before .write-hex4 .ensures .place), rw length-hex at (c .before .before .before .before .write-hex5 .ensures .place)))
-
 returns-5 : tie.Need-returns-5
 unfolding values
-returns-5 c = rw (c .before .before .before .before .before .before .before .before .before .before .before .before .before .before .before .a4 .given .1) (wrote-both (c .before .before .before .before .before .before .before .before .before .before .before .write-hex4 .ensures) (wrote-both (c .before .before .before .before .before .before .before .write-hex5 .ensures) (c .before .before .write-sets .ensures)))
+returns-5 c = rw (c .before .before .before .before .before .a4 .given .1) (rw add-one at (c .before .before .write-constraint .ensures))
 
 -- a refusal
 returns-6 : tie.Need-returns-6
@@ -56,21 +60,15 @@ write-values-spec =
     (tie.spec
     (λ c. search needs)
     (λ c. search needs)
-    (λ c κs. search needs)
+    write-hex-requires
     (λ c. search needs)
-    (λ c κs. search needs)
+    write-hex-requires-2
     (λ c. search needs)
-    (λ c κs. search needs)
-    (λ c. search needs)
-    write-two-requires-2
-    (λ c. search needs)
-    write-hex-requires-3
+    write-flow-requires
     (λ c. search needs)
     (λ c. search needs)
-    (λ c. search needs)
-    (λ c κs. search needs)
-    write-hex-requires-5
-    write-sets-requires
+    add-write-constraint
+    write-constraint-requires
     (λ c. search needs)
     (λ c. search needs)
     returns

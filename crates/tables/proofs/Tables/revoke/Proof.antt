@@ -1,36 +1,11 @@
--- Row d is stored without r; past the last row there is none to store.
-use Prim.Native.Nat.{ℕ}
-use mathlib.Core.Path.{_≡_, ap}
-use native.Mathlib.Omega.{arith}
-use lib.ListN.{length, set}
 use borrow.Author.Needs.{needs}
-use Rattle.tables.specs.Rows.{struck}
 use Rattle.tables.specs.Tables.{revoked, withReaders}
-use Rattle.tables.specs.Laws.{struck-out}
 use Rattle.tables.proofs.Tables.revoke.Statement.{statement}
 use Rattle.tables.proofs.Tables.revoke.Tie as tie
 
 returns : tie.Need-returns
-unfolding revoked withReaders struck
-returns c =
-    let a = c .before .before .before .args in
-    ap (λ (x : ℕ). withReaders (a .t1) (set (a .t1 .readers) (a .d) x)) (c .remove .ensures)
-
-returns-2 : tie.Need-returns-2
 unfolding revoked withReaders
-returns-2 c =
-    let a = c .before .args in
-    let l : length (c .before .args .t1 .readers) ≡ 64 = search needs in
-    ap (withReaders (a .t1)) (struck-out 64 (a .t1 .readers) (a .d) (a .r) (omega arith))
+returns c = rw (c .before .strike .ensures)
 
 pub revoke-spec : {M : Type 1} → statement M
-revoke-spec =
-    tie.close
-    (tie.spec
-    (λ c. search needs)
-    (λ c. search needs)
-    (λ c κs. search needs)
-    (λ c. search needs)
-    (λ c. search needs)
-    returns
-    returns-2)
+revoke-spec = tie.close (tie.spec (λ c. search needs) (λ c κs. search needs) returns)

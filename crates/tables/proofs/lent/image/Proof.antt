@@ -6,8 +6,8 @@ use native.Mathlib.Omega.{arith}
 use lib.Count.{trailingZeros}
 use borrow.Author.Needs.{needs}
 use Rattle.sets.specs.Sets.{has}
-use Rattle.sets.specs.Laws.{next-member, remove-falls}
-use Rattle.tables.specs.Laws.{Gathered, gathered-start, gathered-step, gathered-all}
+use Rattle.sets.proofs.Laws.{next-member, remove-falls}
+use Rattle.tables.proofs.Laws.{Gathered, gathered-start, gathered-step, gathered-all}
 use Rattle.tables.proofs.lent.image.Statement.{statement}
 use Rattle.tables.proofs.lent.image.Tie as tie
 

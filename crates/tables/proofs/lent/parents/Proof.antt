@@ -4,29 +4,29 @@ use mathlib.Core.Path.{_≡_, sym, _∙_}
 use mathlib.Core.Logic.{⊎-elim}
 use native.Mathlib.Omega.{arith}
 use borrow.Author.Needs.{needs}
-use Rattle.tables.specs.Laws.{Kin, kin-start, kin-taken, kin-left, kin-all}
+use Rattle.tables.proofs.Laws.{Parents, parents-start, parents-taken, parents-left, parents-all}
 use Rattle.tables.proofs.lent.parents.Statement.{statement}
 use Rattle.tables.proofs.lent.parents.Tie as tie
 
 abbrev Inv-loop : tie.InvT-loop
-Inv-loop roles s found₀ u₀ found u = (u ≤ 256) × Kin 64 roles s u found
+Inv-loop roles s found₀ u₀ found u = (u ≤ 256) × Parents 64 roles s u found
 
 abbrev μ-loop : tie.MeasureT-loop
 μ-loop roles s found₀ u₀ found u = 256 - u
 
 loop-holds : tie.Need-loop-holds Inv-loop μ-loop
-loop-holds c = (omega arith, kin-start 64 _ _)
+loop-holds c = (omega arith, parents-start 64 _ _)
 
 loop-again : tie.Need-loop-again Inv-loop μ-loop
 loop-again c =
     let g = c .before .before .before .before .loop .inv .1 in
     let meets = sym (c .before .meets .ensures) in
-    (omega arith, ⊎-elim (λ w. kin-taken 64 _ _ _ _ _ g (meets ∙ w .0 .taken) (w .2 ∙ w .1 .ensures)) (λ w. rw (w .1) (kin-left 64 _ _ _ _ g (meets ∙ w .0 .left))) (c .if1 .came))
+    (omega arith, ⊎-elim (λ w. parents-taken 64 _ _ _ _ _ g (meets ∙ w .0 .taken) (w .2 ∙ w .1 .ensures)) (λ w. rw (w .1) (parents-left 64 _ _ _ _ g (meets ∙ w .0 .left))) (c .if1 .came))
 
 returns : tie.Need-returns Inv-loop μ-loop
 returns c =
     let e : c .before .loop .u ≡ 256 = omega arith in
-    kin-all 64 256 _ _ _ (rw e at (c .before .loop .inv .1))
+    parents-all 64 256 _ _ _ (rw e at (c .before .loop .inv .1))
 
 pub parents-spec : {M : Type 1} → statement M
 parents-spec =

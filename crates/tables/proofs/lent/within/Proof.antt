@@ -5,7 +5,7 @@ use native.Mathlib.Omega.{arith}
 use borrow.Author.Needs.{needs}
 use Rattle.tables.specs.Rows.{there}
 use Rattle.tables.specs.Reach.{level}
-use Rattle.tables.specs.Laws.{Spread, spread-start, spread-step, spread-stops}
+use Rattle.tables.proofs.Laws.{Spread, spread-start, spread-step, spread-stops}
 use Rattle.tables.proofs.lent.within.Statement.{statement}
 use Rattle.tables.proofs.lent.within.Tie as tie
 

@@ -1,0 +1,222 @@
+// The calls that change the tables. Each is checked, carried out in place on lent arrays and answered
+// in one function, which promises what the call's definition in `model` says.
+use model::Answer;
+use model::Change;
+use model::Engine;
+use model::Refusal;
+use model::Version;
+use tables::lent;
+ghost use mathlib.Core.Path.{_≡_};
+ghost use mathlib.Core.List.{List};
+ghost use Prim.Native.Nat.{ℕ};
+ghost use Rattle.tables.specs.Rows.{there};
+ghost use Rattle.tables.specs.Tables.{userCount};
+ghost use Rattle.model.specs.State.{tablesOf, directoryOf, anyFlow, given};
+ghost use Rattle.model.specs.Calls.{done, assign, withdraw, permit, revoke, forward, change};
+
+// 01: user u gets role r and a new version.
+pub fn assign(
+    roles: &mut [u64; Engine::USERS],
+    versions: &mut [Version; Engine::USERS],
+    version: &mut Version,
+    u: usize,
+    r: usize,
+) -> Answer
+    ensures { λ a. ⌜ ((readers forwards : List ℕ) → done a (directoryOf (tablesOf (now (roles .exit)) readers forwards) (now (versions .exit)) (now (version .exit))) ≡ assign (directoryOf (tablesOf (now (roles .entry)) readers forwards) (now (versions .entry)) (now (version .entry))) u r) ⌝ }
+{
+    if Engine::USERS <= u {
+        return Answer::Refused(Refusal::AboveLimit);
+    }
+    if Engine::ROLES <= r {
+        return Answer::Refused(Refusal::AboveLimit);
+    }
+    if lent::there(roles, u, r) {
+        return Answer::Refused(Refusal::AlreadyThere);
+    }
+    if *version == Engine::LAST_VERSION {
+        return Answer::Refused(Refusal::VersionsSpent);
+    }
+    let v = *version + 1;
+    lent::enter(roles, u, r);
+    versions[u] = v;
+    *version = v;
+    Answer::Version(v)
+}
+
+// 02: user u loses role r.
+pub fn withdraw(roles: &mut [u64; Engine::USERS], version: Version, u: usize, r: usize) -> Answer
+    ensures { λ a. ⌜ ((readers forwards versions : List ℕ) → done a (directoryOf (tablesOf (now (roles .exit)) readers forwards) versions version) ≡ withdraw (directoryOf (tablesOf (now (roles .entry)) readers forwards) versions version) u r) ⌝ }
+{
+    if Engine::USERS <= u {
+        return Answer::Refused(Refusal::AboveLimit);
+    }
+    if Engine::ROLES <= r {
+        return Answer::Refused(Refusal::AboveLimit);
+    }
+    if !lent::there(roles, u, r) {
+        return Answer::Refused(Refusal::NotThere);
+    }
+    lent::strike(roles, u, r);
+    Answer::Version(version)
+}
+
+// The holders of role r get version v.
+fn renew<'a>(
+    versions: &mut [Version; Engine::USERS],
+    roles: &[u64; Engine::USERS],
+    r: usize,
+    v: Version,
+)
+    ensures { λ _. ⌜ now (versions .exit) ≡ given (λ u. there (now (roles .entry)) u r) v userCount (now (versions .entry)) ⌝ }
+{
+    let mut u = 0;
+    while u < Engine::USERS {
+        if lent::there(roles, u, r) {
+            versions[u] = v;
+        }
+        u += 1;
+    }
+}
+
+// 03: role r may read database d, and its holders get a new version.
+pub fn permit<'a>(
+    roles: &[u64; Engine::USERS],
+    readers: &mut [u64; Engine::DATABASES],
+    versions: &mut [Version; Engine::USERS],
+    version: &mut Version,
+    r: usize,
+    d: usize,
+) -> Answer
+    ensures { λ a. ⌜ ((forwards : List ℕ) → done a (directoryOf (tablesOf (now (roles .entry)) (now (readers .exit)) forwards) (now (versions .exit)) (now (version .exit))) ≡ permit (directoryOf (tablesOf (now (roles .entry)) (now (readers .entry)) forwards) (now (versions .entry)) (now (version .entry))) r d) ⌝ }
+{
+    if Engine::ROLES <= r {
+        return Answer::Refused(Refusal::AboveLimit);
+    }
+    if Engine::DATABASES <= d {
+        return Answer::Refused(Refusal::AboveLimit);
+    }
+    if lent::there(readers, d, r) {
+        return Answer::Refused(Refusal::AlreadyThere);
+    }
+    if !lent::held(roles, r) {
+        lent::enter(readers, d, r);
+        return Answer::Version(*version);
+    }
+    if *version == Engine::LAST_VERSION {
+        return Answer::Refused(Refusal::VersionsSpent);
+    }
+    let v = *version + 1;
+    lent::enter(readers, d, r);
+    renew(versions, roles, r, v);
+    *version = v;
+    Answer::Version(v)
+}
+
+// 04: role r may not read database d any more, and its holders get a new version.
+pub fn revoke<'a>(
+    roles: &[u64; Engine::USERS],
+    readers: &mut [u64; Engine::DATABASES],
+    versions: &mut [Version; Engine::USERS],
+    version: &mut Version,
+    r: usize,
+    d: usize,
+) -> Answer
+    ensures { λ a. ⌜ ((forwards : List ℕ) → done a (directoryOf (tablesOf (now (roles .entry)) (now (readers .exit)) forwards) (now (versions .exit)) (now (version .exit))) ≡ revoke (directoryOf (tablesOf (now (roles .entry)) (now (readers .entry)) forwards) (now (versions .entry)) (now (version .entry))) r d) ⌝ }
+{
+    if Engine::ROLES <= r {
+        return Answer::Refused(Refusal::AboveLimit);
+    }
+    if Engine::DATABASES <= d {
+        return Answer::Refused(Refusal::AboveLimit);
+    }
+    if !lent::there(readers, d, r) {
+        return Answer::Refused(Refusal::NotThere);
+    }
+    if !lent::held(roles, r) {
+        lent::strike(readers, d, r);
+        return Answer::Version(*version);
+    }
+    if *version == Engine::LAST_VERSION {
+        return Answer::Refused(Refusal::VersionsSpent);
+    }
+    let v = *version + 1;
+    lent::strike(readers, d, r);
+    renew(versions, roles, r, v);
+    *version = v;
+    Answer::Version(v)
+}
+
+// Whether any session has a flow.
+fn any_flow(counts: &[usize; Engine::SESSIONS]) -> bool
+    ensures { λ b. ⌜ b ≡ anyFlow (now (counts .entry)) ⌝ }
+{
+    let mut s = 0;
+    while s < Engine::SESSIONS {
+        if 0 < counts[s] {
+            return true;
+        }
+        s += 1;
+    }
+    false
+}
+
+// 05: database d forwards to database e; `counts` tells how many flows each session has.
+pub fn forward<'a>(
+    forwards: &mut [u64; Engine::DATABASES],
+    version: Version,
+    counts: &[usize; Engine::SESSIONS],
+    d: usize,
+    e: usize,
+) -> Answer
+    ensures { λ a. ⌜ ((roles readers versions : List ℕ) → done a (directoryOf (tablesOf roles readers (now (forwards .exit))) versions version) ≡ forward (directoryOf (tablesOf roles readers (now (forwards .entry))) versions version) (now (counts .entry)) d e) ⌝ }
+{
+    if Engine::DATABASES <= d {
+        return Answer::Refused(Refusal::AboveLimit);
+    }
+    if Engine::DATABASES <= e {
+        return Answer::Refused(Refusal::AboveLimit);
+    }
+    if any_flow(counts) {
+        return Answer::Refused(Refusal::FlowAdded);
+    }
+    if lent::there(forwards, d, e) {
+        return Answer::Refused(Refusal::AlreadyThere);
+    }
+    lent::enter(forwards, d, e);
+    Answer::Version(version)
+}
+
+// Any change of the tables.
+pub fn change<'a>(
+    roles: &mut [u64; Engine::USERS],
+    readers: &mut [u64; Engine::DATABASES],
+    forwards: &mut [u64; Engine::DATABASES],
+    versions: &mut [Version; Engine::USERS],
+    version: &mut Version,
+    counts: &[usize; Engine::SESSIONS],
+    c: Change,
+) -> Answer
+    ensures { λ a. ⌜ done a (directoryOf (tablesOf (now (roles .exit)) (now (readers .exit)) (now (forwards .exit))) (now (versions .exit)) (now (version .exit))) ≡ change (directoryOf (tablesOf (now (roles .entry)) (now (readers .entry)) (now (forwards .entry))) (now (versions .entry)) (now (version .entry))) (now (counts .entry)) c ⌝ }
+{
+    match c {
+        Change::Assign { user, role } => assign(roles, versions, version, user, role),
+        Change::Withdraw { user, role } => withdraw(roles, *version, user, role),
+        Change::Permit { role, database } => permit(
+            roles,
+            readers,
+            versions,
+            version,
+            role,
+            database,
+        ),
+        Change::Revoke { role, database } => revoke(
+            roles,
+            readers,
+            versions,
+            version,
+            role,
+            database,
+        ),
+        Change::Forward { from, to } => forward(forwards, *version, counts, from, to),
+    }
+}

@@ -1,0 +1,47 @@
+-- Answers carried from a part of the engine to the whole, and a constraint that is shown.
+-- Assumes nothing.
+use Prim.Native.Nat.{ℕ, _<_}
+use mathlib.Core.Path.{_≡_, refl, ap}
+use mathlib.Core.Bool.{Bool, true, false, not}
+use native.Mathlib.Omega.{arith}
+use lib.Dec.{leb}
+use borrow.Author.Tests.{leb-false}
+use Rattle.sets.specs.Sets.{has}
+use Rattle.model.specs.declared.Directory.{Directory}
+use Rattle.model.specs.declared.Sessions.{Sessions}
+use Rattle.model.specs.declared.calls.Answer.{Answer}
+use Rattle.model.specs.declared.calls.Answer.the-variants.{Constraint}
+use Rattle.model.specs.declared.calls.Refusal.{Refusal}
+use Rattle.model.specs.declared.calls.Refusal.the-variants.{AboveLimit, NotOpen, NoSuchFlow}
+use Rattle.model.specs.declared.calls.Verdict.{Verdict}
+use Rattle.model.specs.declared.calls.Verdict.the-variants.{Granted, Refused}
+use Rattle.model.specs.State.{engineOf}
+use Rattle.model.specs.Calls.{Done, done, unless, verdictOf, answerOf, flowsIn, show}
+
+-- ---- what was asked of a part leaves the rest as it is
+
+pub of-directory : {x y : Done Directory} (S : Sessions) → x ≡ y → done (x .answer) (engineOf (x .after) S) ≡ done (y .answer) (engineOf (y .after) S)
+of-directory S e = ap (λ (x : Done Directory). done (x .answer) (engineOf (x .after) S)) e
+
+pub of-sessions : {x y : Done Sessions} (D : Directory) → x ≡ y → done (x .answer) (engineOf D (x .after)) ≡ done (y .answer) (engineOf D (y .after))
+of-sessions D e = ap (λ (x : Done Sessions). done (x .answer) (engineOf D (x .after))) e
+
+-- ---- verdicts
+
+pub verdict-answer : (v : Verdict) → verdictOf (answerOf v) ≡ v
+unfolding verdictOf answerOf
+verdict-answer Granted = refl
+verdict-answer (Refused why) = refl
+
+unless-granted : (b : Bool) (why : Refusal) (a : Answer) → verdictOf (unless b why a) ≡ Granted → (b ≡ false) × (verdictOf a ≡ Granted)
+unfolding verdictOf
+unless-granted true why a h = let z : _≡_ {A = ℕ} 0 1 = cc in absurd (omega arith)
+unless-granted false why a h = (refl, h)
+
+-- a constraint that is shown is that of a session and a flow below their limits
+pub show-within : (S : Sessions) (s f : ℕ) → verdictOf (show S s f) ≡ Granted → (s < 16) × (f < 8)
+unfolding show
+show-within S s f h =
+    let open′ : Answer = unless (not (has (S .opened) s)) NotOpen (unless (leb (flowsIn S s) f) NoSuchFlow (Constraint s f)) in
+    let p = unless-granted (leb 16 s) AboveLimit (unless (leb 8 f) AboveLimit open′) h in
+    (leb-false 16 s (p .0), leb-false 8 f (unless-granted (leb 8 f) AboveLimit open′ (p .1) .0))

@@ -1,0 +1,523 @@
+-- What the ledger alone tells of a list of calls: what a call changes, and what stays from one call to a later one.
+-- With it the first half of demand 3, over the ledger: under its premises no user's reads of two flows of one session both meet no row.
+-- Assumes nothing.
+use Prim.Native.Nat.{ℕ, zero, suc, _+_, _≤_, _<_}
+use mathlib.Core.Path.{_≡_, refl, sym, ap, _∙_, subst}
+use mathlib.Core.Bool.{Bool, true, false, cond, not, _&&_, _||_, true≢false}
+use mathlib.Core.List.{List, [], _∷_, _++_}
+use mathlib.Core.Logic.{_⊎_, inl, inr, ⊎-elim, _≢_}
+use native.Mathlib.Decide.{decLt}
+use native.Mathlib.Omega.{arith}
+use lib.Dec.{leb, ltb, eqb}
+use lib.ListN.{length, getD, take, length-append, List·getD-append}
+use lib.Seq.{take-suc, getD-at}
+use borrow.Author.Tests.{ltb-false, leb-false, le-leb, eqb-true, eqb-false, ne-eqb, not-false}
+use Rattle.sets.specs.Sets.{some, count}
+use Rattle.sets.proofs.Laws.{and-both, and-true, or-either, or-neither, or-none, or-left, and-all, some-of, some-at, count-two}
+use Rattle.tables.specs.Tables.{userCount, roleCount, databaseCount}
+use Rattle.model.specs.declared.calls.Change.{Change}
+use Rattle.model.specs.declared.calls.Change.the-variants.{Assign, Withdraw, Permit, Revoke, Forward}
+use Rattle.model.specs.declared.calls.Ask.{Ask}
+use Rattle.model.specs.declared.calls.Ask.the-variants.{Open, Conflicting, Add, Show}
+use Rattle.model.specs.declared.calls.Call.{Call}
+use Rattle.model.specs.declared.calls.Call.the-variants.{Table, Session, Read, Unreadable}
+use Rattle.model.specs.Limits.{sessionCount, flowCount}
+use Rattle.model.specs.Ledger.{Ledger, Flow, start, flowOf, reads, readsTwoOf, holdsDenied, linked}
+use Rattle.model.specs.Refusals.{due, newFlow, askRows, readRows, rows, firstMet, refusal, earlierRefusal, accepts, plus, minus, entered, renewed, withFlows, asked, taken, ledgerStep, ledgerAfter}
+use Rattle.model.specs.Demands.{callAt, ledgerAt, takesFrom}
+use Rattle.model.proofs.Chains.{not-met}
+
+-- ---- the rows of a read
+
+-- the first of its rows that is met: 2, 6, 10 to 14
+unfoldable firstOf : (a b c g h i p : Bool) → ℕ
+firstOf a b c g h i p = cond a 2 (cond b 6 (cond c 10 (cond g 11 (cond h 12 (cond i 13 (cond p 14 0))))))
+
+module _ (l : Ledger) (p : ℕ → ℕ → ℕ → Bool) (u s f d : ℕ) where
+  met-read : firstMet (readRows l p u s f d)
+      ≡ firstOf ((leb userCount u || leb databaseCount d) || (leb sessionCount s || leb flowCount f)) (not (l .opened s)) (leb (length (l .flows s)) f) (not (flowOf l s f .reach d))
+      (not (some roleCount (λ r. l .holds u r && l .mayRead r d))) (ltb (flowOf l s f .version) (l .version u)) (p u s f)
+  unfolding readRows firstMet firstOf
+  met-read = refl
+
+none-met : (a b c g h i p : Bool) → firstOf a b c g h i p ≡ 0 → (a ≡ false) × (b ≡ false) × (c ≡ false) × (g ≡ false) × (h ≡ false) × (i ≡ false) × (p ≡ false)
+unfolding firstOf
+none-met true b c g h i p e = absurd (omega arith)
+none-met false true c g h i p e = absurd (omega arith)
+none-met false false true g h i p e = absurd (omega arith)
+none-met false false false true h i p e = absurd (omega arith)
+none-met false false false false true i p e = absurd (omega arith)
+none-met false false false false false true p e = absurd (omega arith)
+none-met false false false false false false true e = absurd (omega arith)
+none-met false false false false false false false e = (refl, refl, refl, refl, refl, refl, refl)
+
+-- the last one may go by another test where those before are not met
+same-number : (a b c g h i p q : Bool) → (a ≡ false → c ≡ false → i ≡ false → p ≡ q) → firstOf a b c g h i p ≡ firstOf a b c g h i q
+unfolding firstOf
+same-number true b c g h i p q f = refl
+same-number false true c g h i p q f = refl
+same-number false false true g h i p q f = refl
+same-number false false false true h i p q f = refl
+same-number false false false false true i p q f = refl
+same-number false false false false false true p q f = refl
+same-number false false false false false false p q f = ap (λ (t : Bool). cond t 14 0) (f refl refl refl)
+
+-- and settles the number
+settled : (a b c g h i p : Bool) → firstOf a b c g h i false ≡ 0 → firstOf a b c g h i p ≡ cond p 14 0
+unfolding firstOf
+settled a b c g h i p e = let w = none-met a b c g h i false e in rw (w .0, w .1, w .2, w .3, w .4, w .5)
+
+-- row 2 is not met: the flow and the database are below their limits
+below : (u s f d : ℕ) → ((leb userCount u || leb databaseCount d) || (leb sessionCount s || leb flowCount f)) ≡ false → (f < flowCount) × (d < databaseCount)
+below u s f d h =
+    let w = or-neither (leb userCount u || leb databaseCount d) (leb sessionCount s || leb flowCount f) h in
+    (leb-false flowCount f (or-neither (leb sessionCount s) (leb flowCount f) (w .1) .1), leb-false databaseCount d (or-neither (leb userCount u) (leb databaseCount d) (w .0) .1))
+
+-- two tests for row 14 that agree on reads which come to it return the same number
+pub same-rows : (l : Ledger) (p q : ℕ → ℕ → ℕ → Bool) (u s f d : ℕ) → (f < flowCount → f < length (l .flows s) → l .version u ≤ flowOf l s f .version → p u s f ≡ q u s f)
+    → firstMet (readRows l p u s f d) ≡ firstMet (readRows l q u s f d)
+same-rows l p q u s f d h =
+    met-read l p u s f d
+    ∙ same-number _ _ _ _ _ _ _ _ (λ a c i. h (below u s f d a .0) (leb-false (length (l .flows s)) f c) (ltb-false (flowOf l s f .version) (l .version u) i))
+    ∙ sym (met-read l q u s f d)
+
+-- of a read that meets no row before 14, the number is settled by row 14
+pub last-row : (l : Ledger) (u s f d : ℕ) → earlierRefusal l (Read u s f d) ≡ 0 → refusal l (Read u s f d) ≡ cond (linked l u s f) 14 0
+unfolding earlierRefusal refusal rows
+last-row l u s f d h = met-read l (linked l) u s f d ∙ settled _ _ _ _ _ _ (linked l u s f) (sym (met-read l (λ v t g. false) u s f d) ∙ h)
+
+-- what is known of a read that meets no row
+record Passed (l : Ledger) (u s f d : ℕ) : Type 0 where
+  inside : d < databaseCount
+  there : f < length (l .flows s)
+  reached : flowOf l s f .reach d ≡ true
+  permitted : some roleCount (λ r. l .holds u r && l .mayRead r d) ≡ true
+  current : l .version u ≤ flowOf l s f .version
+  unlinked : linked l u s f ≡ false
+
+read-passed : (l : Ledger) (u s f d : ℕ) → refusal l (Read u s f d) ≡ 0 → Passed l u s f d
+unfolding refusal rows
+read-passed l u s f d h =
+    let w = none-met _ _ _ _ _ _ _ (sym (met-read l (linked l) u s f d) ∙ h) in
+    record {
+      inside = below u s f d (w .0) .1;
+      there = leb-false (length (l .flows s)) f (w .2);
+      reached = not-false (flowOf l s f .reach d) (w .3);
+      permitted = not-false (some roleCount (λ r. l .holds u r && l .mayRead r d)) (w .4);
+      current = ltb-false (flowOf l s f .version) (l .version u) (w .5);
+      unlinked = w .6;
+    }
+
+-- ---- what a user reads
+
+-- role r of user u may read database d
+unfoldable mayUse : Ledger → ℕ → ℕ → ℕ → Bool
+mayUse l u r d = l .holds u r && l .mayRead r d
+
+-- a user who has a role that may read a database of a flow's reach may statically read the flow
+reads-at : (l : Ledger) (u : ℕ) (flow : Flow) (r d : ℕ) → r < roleCount → d < databaseCount → flow .reach d ≡ true → mayUse l u r d ≡ true → reads l u flow ≡ true
+unfolding reads mayUse
+reads-at l u flow r d k m a b =
+    let e = and-both (l .holds u r) (l .mayRead r d) b in
+    some-at roleCount (λ x. l .holds u x && some databaseCount (λ y. flow .reach y && l .mayRead x y)) r k
+    (and-true (e .0) (some-at databaseCount (λ y. flow .reach y && l .mayRead r y) d m (and-true a (e .1))))
+
+-- the role by which a passed read reads
+reader : {l : Ledger} {u s f d : ℕ} → Passed l u s f d → (r : ℕ) × (r < roleCount) × (mayUse l u r d ≡ true)
+unfolding mayUse
+reader {l} {u} {s} {f} {d} h = some-of roleCount (λ r. l .holds u r && l .mayRead r d) (h .permitted)
+
+-- a passed read's user may statically read its flow
+reads-passed : {l : Ledger} {u s f d : ℕ} → Passed l u s f d → reads l u (flowOf l s f) ≡ true
+reads-passed {l} {u} {s} {f} {d} h = let r = reader h in reads-at l u (flowOf l s f) (r .0) d (r .1) (h .inside) (h .reached) (r .2)
+
+-- a user who holds a denied role of flow b and is not linked there does not read an older flow beside it
+not-both : (l : Ledger) (u s a b : ℕ) → a < b → linked l u s b ≡ false → holdsDenied l u (flowOf l s b) ≡ true
+    → reads l u (flowOf l s a) ≡ true → reads l u (flowOf l s b) ≡ true → ⊥
+unfolding linked readsTwoOf
+not-both l u s a b k h e p q =
+    true≢false (sym (and-true e (le-leb 2 (count (suc b) readable) (count-two (suc b) readable a b (omega arith) (omega arith) (omega arith) p q))) ∙ h)
+  where
+    readable : ℕ → Bool
+    readable g = reads l u (flowOf l s g)
+
+-- ---- an older ledger and a later one
+
+-- user u got nothing from l to m: no version, no role, and the roles that u still holds may read what they could
+pub record Stays (l m : Ledger) (u : ℕ) : Type 0 where
+  pub version : m .version u ≡ l .version u
+  pub held : (r : ℕ) → m .holds u r ≡ true → l .holds u r ≡ true
+  pub readers : (r : ℕ) → m .holds u r ≡ true → (d : ℕ) → m .mayRead r d ≡ l .mayRead r d
+
+pub record Since (l m : Ledger) : Type 0 where
+  pub rises : l .system ≤ m .system
+  -- a flow stays as it was added
+  pub flows : (s f : ℕ) → f < length (l .flows s) → (f < length (m .flows s)) × (flowOf m s f ≡ flowOf l s f)
+  -- a user's version rose above the system's of then, or the user got nothing
+  pub users : (u : ℕ) → (l .system < m .version u) ⊎ Stays l m u
+
+stays-now : (l : Ledger) (u : ℕ) → Stays l l u
+stays-now l u = record { version = refl; held = λ r h. h; readers = λ r h d. refl }
+
+since-now : (l : Ledger) → Since l l
+since-now l = record { rises = omega arith; flows = λ s f k. (k, refl); users = λ u. inr (stays-now l u) }
+
+since-both : (l m n : Ledger) → Since l m → Since m n → Since l n
+since-both l m n a b = record {
+  rises = omega (arith, a .rises, b .rises);
+  flows = λ s f k.
+      let p = a .flows s f k in
+      let q = b .flows s f (p .0) in
+      (q .0, q .1 ∙ p .1);
+  users = λ u. go u (a .users u) (b .users u);
+}
+  where
+    go : (u : ℕ) → (l .system < m .version u) ⊎ Stays l m u → (m .system < n .version u) ⊎ Stays m n u → (l .system < n .version u) ⊎ Stays l n u
+    go u p (inl q) = inl (omega (arith, a .rises))
+    go u (inl p) (inr q) = inl (rw (q .version) p)
+    go u (inr p) (inr q) = inr (record {
+      version = q .version ∙ p .version;
+      held = λ r h. p .held r (q .held r h);
+      readers = λ r h d. q .readers r h d ∙ p .readers r (q .held r h) d;
+    })
+
+-- every flow's version is at most the system's, and a session that is not open has no flows
+pub record Ordered (l : Ledger) : Type 0 where
+  pub flows : (s f : ℕ) → f < length (l .flows s) → flowOf l s f .version ≤ l .system
+  pub shut : (s : ℕ) → l .opened s ≡ false → l .flows s ≡ []
+
+-- ---- pairs entered and struck out
+
+module _ (pairs : ℕ → ℕ → Bool) (a b c d : ℕ) where
+  plus-of : plus pairs a b c d ≡ true → (pairs c d ≡ true) ⊎ (c ≡ a)
+  unfolding plus
+  plus-of h = ⊎-elim (λ t. inl t) (λ t. inr (eqb-true c a (and-both (eqb c a) (eqb d b) t .0))) (or-either (pairs c d) (eqb c a && eqb d b) h)
+
+  plus-keeps : pairs c d ≡ true → plus pairs a b c d ≡ true
+  unfolding plus
+  plus-keeps h = or-left (eqb c a && eqb d b) h
+
+  plus-other : c ≢ a → plus pairs a b c d ≡ pairs c d
+  unfolding plus
+  plus-other n = rw (ne-eqb c a n) (sym (or-none (pairs c d)))
+
+  minus-of : minus pairs a b c d ≡ true → pairs c d ≡ true
+  unfolding minus
+  minus-of h = and-both (pairs c d) (not (eqb c a && eqb d b)) h .0
+
+  minus-other : c ≢ a → minus pairs a b c d ≡ pairs c d
+  unfolding minus
+  minus-other n = rw (ne-eqb c a n) (sym (and-all (pairs c d)))
+
+-- ---- a change of the tables
+
+-- the rest of the ledger
+entered-rest : (l : Ledger) (c : Change) → (entered l c .system ≡ l .system) × (entered l c .version ≡ l .version) × (entered l c .opened ≡ l .opened) × (entered l c .flows ≡ l .flows)
+unfolding entered
+entered-rest l (Assign u r) = (refl, refl, refl, refl)
+entered-rest l (Withdraw u r) = (refl, refl, refl, refl)
+entered-rest l (Permit r d) = (refl, refl, refl, refl)
+entered-rest l (Revoke r d) = (refl, refl, refl, refl)
+entered-rest l (Forward d e) = (refl, refl, refl, refl)
+
+-- two roles of which a user holds one differ
+not-held : (l : Ledger) (u r x : ℕ) → l .holds u x ≡ false → l .holds u r ≡ true → r ≢ x
+not-held l u r x n h e = true≢false (sym h ∙ ap (l .holds u) e ∙ n)
+
+-- a user who is due no new version gets no role, and the roles that the user holds may read what they could
+undue : (l : Ledger) (c : Change) (u r : ℕ) → due l c u ≡ false → entered l c .holds u r ≡ true → (l .holds u r ≡ true) × ((d : ℕ) → entered l c .mayRead r d ≡ l .mayRead r d)
+unfolding due entered
+undue l (Assign w x) u r n h = (⊎-elim (λ t. t) (λ t. absurd (eqb-false u w n t)) (plus-of (l .holds) w x u r h), λ d. refl)
+undue l (Withdraw w x) u r n h = (minus-of (l .holds) w x u r h, λ d. refl)
+undue l (Permit x y) u r n h = (h, λ d. plus-other (l .mayRead) x y r d (not-held l u r x n h))
+undue l (Revoke x y) u r n h = (h, λ d. minus-other (l .mayRead) x y r d (not-held l u r x n h))
+undue l (Forward x y) u r n h = (h, λ d. refl)
+
+module _ (l : Ledger) (c : Change) where
+  change-rises : l .system ≤ taken l (Table c) .system
+  unfolding taken renewed
+  change-rises = go (some userCount (due l c))
+    where
+      go : (b : Bool) → l .system ≤ cond b (entered l c .system + 1) (entered l c .system)
+      go true = omega (arith, entered-rest l c .0)
+      go false = omega (arith, entered-rest l c .0)
+
+  change-users : (u : ℕ) → (l .system < taken l (Table c) .version u) ⊎ Stays l (taken l (Table c)) u
+  unfolding taken renewed
+  change-users u = go (due l c u) refl
+    where
+      go : (b : Bool) → due l c u ≡ b → (l .system < taken l (Table c) .version u) ⊎ Stays l (taken l (Table c)) u
+      go true h = inl (rw h (omega (arith, entered-rest l c .0)))
+      go false h = inr (record {
+        version = rw (h, entered-rest l c .1);
+        held = λ r t. undue l c u r h t .0;
+        readers = λ r t d. undue l c u r h t .1 d;
+      })
+
+  change-flows : taken l (Table c) .flows ≡ l .flows
+  unfolding taken renewed
+  change-flows = entered-rest l c .3
+
+  since-change : Since l (taken l (Table c))
+  unfolding flowOf
+  since-change = record { rises = change-rises; flows = λ s f k. rw change-flows (k, refl); users = change-users }
+
+  ordered-change : Ordered l → Ordered (taken l (Table c))
+  unfolding flowOf taken renewed
+  ordered-change o = record {
+    flows = λ s f. rw change-flows (λ k. omega (arith, o .flows s f k, change-rises));
+    shut = λ s. rw (entered-rest l c .2, change-flows) (o .shut s);
+  }
+
+-- a change that takes nothing from the user leaves what the user may read
+change-leaves : (l : Ledger) (c : Change) (u r d : ℕ) → takesFrom l u c ≡ false → mayUse l u r d ≡ true → mayUse (taken l (Table c)) u r d ≡ true
+unfolding mayUse taken renewed entered takesFrom
+change-leaves l (Assign w x) u r d n h = let e = and-both (l .holds u r) (l .mayRead r d) h in and-true (plus-keeps (l .holds) w x u r (e .0)) (e .1)
+change-leaves l (Withdraw w x) u r d n h = rw (minus-other (l .holds) w x u r (λ e. eqb-false w u n (sym e))) h
+change-leaves l (Permit x y) u r d n h = let e = and-both (l .holds u r) (l .mayRead r d) h in and-true (e .0) (plus-keeps (l .mayRead) x y r d (e .1))
+change-leaves l (Revoke x y) u r d n h =
+    let e = and-both (l .holds u r) (l .mayRead r d) h in
+    rw (minus-other (l .mayRead) x y r d (not-held l u r x n (e .0))) h
+change-leaves l (Forward x y) u r d n h = h
+
+-- ---- what is asked of a session
+
+-- the rest of the ledger
+asked-rest : (l : Ledger) (s : ℕ) (a : Ask) → (asked l s a .system ≡ l .system) × (asked l s a .version ≡ l .version) × (asked l s a .holds ≡ l .holds) × (asked l s a .mayRead ≡ l .mayRead)
+unfolding asked withFlows
+asked-rest l s Open = (refl, refl, refl, refl)
+asked-rest l s (Conflicting d) = (refl, refl, refl, refl)
+asked-rest l s (Add d m) = (refl, refl, refl, refl)
+asked-rest l s (Show f) = (refl, refl, refl, refl)
+
+-- an accepted opening is of a session that is not open
+opens-shut : (l : Ledger) (s : ℕ) → accepts l (Session s Open) ≡ true → l .opened s ≡ false
+unfolding accepts refusal rows askRows
+opens-shut l s h = not-met 2 _ _ (not-met 1 _ _ (eqb-true (refusal l (Session s Open)) 0 h) .1) .0
+
+-- m's flows of session s are l's, or those and one more, whose version is l's system version
+Longer : Ledger → ℕ → Ledger → Type 0
+Longer l s m = (m .flows s ≡ l .flows s) ⊎ ((flow : Flow) × (flow .version ≡ l .system) × (m .flows s ≡ l .flows s ++ (flow ∷ [])))
+
+asked-flows : (l : Ledger) (s : ℕ) (a : Ask) (t : ℕ) → Ordered l → accepts l (Session s a) ≡ true → Longer l t (asked l s a)
+unfolding Longer asked withFlows newFlow
+asked-flows l s Open t o h = inl (go (eqb t s) refl)
+  where
+    go : (b : Bool) → eqb t s ≡ b → cond b [] (l .flows t) ≡ l .flows t
+    go true e = rw (eqb-true t s e) (sym (o .shut s (opens-shut l s h)))
+    go false e = refl
+asked-flows l s (Conflicting d) t o h = inl refl
+asked-flows l s (Add d m) t o h = go (eqb t s) refl
+  where
+    new : Flow
+    new = newFlow l s d m
+
+    go : (b : Bool) → eqb t s ≡ b → (cond b (l .flows s ++ (new ∷ [])) (l .flows t) ≡ l .flows t)
+        ⊎ ((flow : Flow) × (flow .version ≡ l .system) × (cond b (l .flows s ++ (new ∷ [])) (l .flows t) ≡ l .flows t ++ (flow ∷ [])))
+    go true e = inr (new, refl, rw (eqb-true t s e))
+    go false e = inl refl
+asked-flows l s (Show f) t o h = inl refl
+
+asked-shut : (l : Ledger) (s : ℕ) (a : Ask) → Ordered l → (t : ℕ) → asked l s a .opened t ≡ false → asked l s a .flows t ≡ []
+unfolding asked withFlows
+asked-shut l s Open o t h = let w = or-neither (l .opened t) (eqb t s) h in rw (w .1) (o .shut t (w .0))
+asked-shut l s (Conflicting d) o t h = o .shut t h
+asked-shut l s (Add d m) o t h = let w = or-neither (l .opened t) (eqb t s) h in rw (w .1) (o .shut t (w .0))
+asked-shut l s (Show f) o t h = o .shut t h
+
+longer-keeps : (l m : Ledger) (s f : ℕ) → Longer l s m → f < length (l .flows s) → (f < length (m .flows s)) × (flowOf m s f ≡ flowOf l s f)
+unfolding Longer flowOf
+longer-keeps l m s f (inl e) k = rw e (k, refl)
+longer-keeps l m s f (inr (flow, v, e)) k = rw e (omega (arith, length-append (l .flows s) (flow ∷ [])), List·getD-append (l .flows s) (flow ∷ []) _ f k)
+
+-- one flow more, whose version is not above n either
+one-flow-more : (flows : List Flow) (new none : Flow) (n f : ℕ) → (f < length flows → getD flows f none .version ≤ n) → new .version ≤ n
+    → f < length (flows ++ (new ∷ [])) → getD (flows ++ (new ∷ [])) f none .version ≤ n
+one-flow-more flows new none n f h v k = go (decLt f (length flows))
+  where
+    go : Dec (f < length flows) → getD (flows ++ (new ∷ [])) f none .version ≤ n
+    go (yes i) = rw (List·getD-append flows (new ∷ []) none f i) (h i)
+    go (no i) = rw (getD-at flows new [] none f (omega (arith, length-append flows (new ∷ [])))) v
+
+longer-ordered : (l m : Ledger) (s f : ℕ) → Ordered l → m .system ≡ l .system → Longer l s m → f < length (m .flows s) → flowOf m s f .version ≤ m .system
+unfolding Longer flowOf
+longer-ordered l m s f o n (inl e) = rw e (λ k. omega (arith, o .flows s f k))
+longer-ordered l m s f o n (inr (flow, v, e)) = rw e (one-flow-more (l .flows s) flow _ (m .system) f (λ k. omega (arith, o .flows s f k)) (omega arith))
+
+module _ (l : Ledger) (s : ℕ) (a : Ask) (o : Ordered l) (h : accepts l (Session s a) ≡ true) where
+  since-ask : Since l (asked l s a)
+  since-ask = record {
+    rises = omega (arith, asked-rest l s a .0);
+    flows = λ t f k. longer-keeps l (asked l s a) t f (asked-flows l s a t o h) k;
+    users = λ u. inr (record {
+      version = rw (asked-rest l s a .1);
+      held = λ r. rw (asked-rest l s a .2) (λ t. t);
+      readers = λ r t d. rw (asked-rest l s a .3);
+    });
+  }
+
+  ordered-ask : Ordered (asked l s a)
+  ordered-ask = record {
+    flows = λ t f k. longer-ordered l (asked l s a) t f o (asked-rest l s a .0) (asked-flows l s a t o h) k;
+    shut = asked-shut l s a o;
+  }
+
+-- ---- any call
+
+-- the ledger stays, or the call is accepted
+step-by : (P : Ledger → Type 0) (l : Ledger) (c : Call) → P l → (accepts l c ≡ true → P (taken l c)) → P (ledgerStep l c)
+unfolding ledgerStep
+step-by P l c h f = go (accepts l c) refl
+  where
+    go : (b : Bool) → accepts l c ≡ b → P (cond b (taken l c) l)
+    go true e = f e
+    go false e = h
+
+since-taken : (l : Ledger) (c : Call) → Ordered l → accepts l c ≡ true → Since l (taken l c)
+unfolding taken
+since-taken l (Table c) o h = since-change l c
+since-taken l (Session s a) o h = since-ask l s a o h
+since-taken l (Read u s f d) o h = since-now l
+since-taken l Unreadable o h = since-now l
+
+pub since-step : (l : Ledger) (c : Call) → Ordered l → Since l (ledgerStep l c)
+since-step l c o = step-by (Since l) l c (since-now l) (since-taken l c o)
+
+ordered-taken : (l : Ledger) (c : Call) → Ordered l → accepts l c ≡ true → Ordered (taken l c)
+unfolding taken
+ordered-taken l (Table c) o h = ordered-change l c o
+ordered-taken l (Session s a) o h = ordered-ask l s a o h
+ordered-taken l (Read u s f d) o h = o
+ordered-taken l Unreadable o h = o
+
+pub ordered-step : (l : Ledger) (c : Call) → Ordered l → Ordered (ledgerStep l c)
+ordered-step l c o = step-by Ordered l c o (ordered-taken l c o)
+
+pub ordered-start : Ordered start
+unfolding start
+ordered-start = record { flows = λ s f k. absurd (omega arith); shut = λ s h. refl }
+
+-- the call takes nothing from the user, as only an accepted change of the tables can
+Spares : Ledger → ℕ → Call → Type 0
+Spares l u x = (c : Change) → x ≡ Table c → accepts l (Table c) ≡ true → takesFrom l u c ≡ false
+
+taken-leaves : (l : Ledger) (x : Call) (u r d : ℕ) → Spares l u x → accepts l x ≡ true → mayUse l u r d ≡ true → mayUse (taken l x) u r d ≡ true
+unfolding Spares taken mayUse
+taken-leaves l (Table c) u r d n a h = change-leaves l c u r d (n c refl a) h
+taken-leaves l (Session s b) u r d n a h = rw (asked-rest l s b .2, asked-rest l s b .3) h
+taken-leaves l (Read w s f y) u r d n a h = h
+taken-leaves l Unreadable u r d n a h = h
+
+step-leaves : (l : Ledger) (x : Call) (u r d : ℕ) → Spares l u x → mayUse l u r d ≡ true → mayUse (ledgerStep l x) u r d ≡ true
+step-leaves l x u r d n h = step-by (λ m. mayUse m u r d ≡ true) l x h (λ a. taken-leaves l x u r d n a h)
+
+-- ---- one call after the other
+
+-- what every step keeps holds to the end
+pub along : (P : ℕ → Type 0) (i j : ℕ) → i ≤ j → P i → ((k : ℕ) → i ≤ k → k < j → P k → P (suc k)) → P j
+along P i zero l h f = subst P (omega arith) h
+along P i (suc j) l h f = go (decLt j i) (along P i j)
+  where
+    go : Dec (j < i) → (i ≤ j → P i → ((k : ℕ) → i ≤ k → k < j → P k → P (suc k)) → P j) → P (suc j)
+    go (yes m) r = subst P (omega arith) h
+    go (no m) r = f j (omega arith) (omega arith) (r (omega arith) h (λ k a b. f k a (omega arith)))
+
+after-one-more : (l : Ledger) (cs : List Call) (c : Call) → ledgerAfter l (cs ++ (c ∷ [])) ≡ ledgerStep (ledgerAfter l cs) c
+unfolding ledgerAfter
+after-one-more l [] c = refl
+after-one-more l (b ∷ cs) c = after-one-more (ledgerStep l b) cs c
+
+ledger-step : (cs : List Call) (k : ℕ) → k < length cs → ledgerAt cs (suc k) ≡ ledgerStep (ledgerAt cs k) (callAt cs k)
+unfolding ledgerAt callAt
+ledger-step cs k h = rw (take-suc cs k Unreadable) (after-one-more start (take k cs) (getD cs k Unreadable))
+
+ordered-after : (l : Ledger) (cs : List Call) → Ordered l → Ordered (ledgerAfter l cs)
+unfolding ledgerAfter
+ordered-after l [] o = o
+ordered-after l (c ∷ cs) o = ordered-after (ledgerStep l c) cs (ordered-step l c o)
+
+ordered-at : (cs : List Call) (k : ℕ) → Ordered (ledgerAt cs k)
+unfolding ledgerAt
+ordered-at cs k = ordered-after start (take k cs) ordered-start
+
+since-at : (cs : List Call) (i j : ℕ) → i ≤ j → j ≤ length cs → Since (ledgerAt cs i) (ledgerAt cs j)
+since-at cs i j l m =
+    along (λ n. Since (ledgerAt cs i) (ledgerAt cs n)) i j l (since-now (ledgerAt cs i))
+    (λ n a b h. rw (ledger-step cs n (omega arith)) (since-both (ledgerAt cs i) (ledgerAt cs n) _ h (since-step (ledgerAt cs n) (callAt cs n) (ordered-at cs n))))
+
+-- what a user may read stays while nothing is taken from the user
+left-at : (cs : List Call) (i j u r d : ℕ) → i ≤ j → j ≤ length cs → ((k : ℕ) → i ≤ k → k < j → Spares (ledgerAt cs k) u (callAt cs k))
+    → mayUse (ledgerAt cs i) u r d ≡ true → mayUse (ledgerAt cs j) u r d ≡ true
+left-at cs i j u r d l m n h =
+    along (λ k. mayUse (ledgerAt cs k) u r d ≡ true) i j l h
+    (λ k a b t. rw (ledger-step cs k (omega arith)) (step-leaves (ledgerAt cs k) (callAt cs k) u r d (n k a b) t))
+
+-- ---- demand 3, first half
+
+pub first-half : (cs : List Call) (i j u s f g d e : ℕ) → i < j → j < length cs
+    → callAt cs i ≡ Read u s f d → callAt cs j ≡ Read u s g e → f ≢ g
+    → refusal (ledgerAt cs i) (Read u s f d) ≡ 0 → refusal (ledgerAt cs j) (Read u s g e) ≡ 0
+    → (f < g → holdsDenied (ledgerAt cs j) u (flowOf (ledgerAt cs j) s g) ≡ true)
+    → (g < f → holdsDenied (ledgerAt cs i) u (flowOf (ledgerAt cs i) s f) ≡ true)
+    → ((k : ℕ) (c : Change) → i < k → k < j → callAt cs k ≡ Table c → accepts (ledgerAt cs k) (Table c) ≡ true → takesFrom (ledgerAt cs k) u c ≡ false)
+    → ⊥
+unfolding Spares mayUse
+first-half cs i j u s f g d e l m p q n a b x y z = go (decLt f g)
+  where
+    then : Ledger
+    then = ledgerAt cs i
+
+    now : Ledger
+    now = ledgerAt cs j
+
+    -- the first read and the second
+    one : Passed then u s f d
+    one = read-passed then u s f d a
+
+    two : Passed now u s g e
+    two = read-passed now u s g e b
+
+    since : Since then now
+    since = since-at cs i j (omega arith) (omega arith)
+
+    -- the first call is a read, so nothing is taken from it on
+    nothing : (k : ℕ) → i ≤ k → k < j → Spares (ledgerAt cs k) u (callAt cs k)
+    nothing k h t c r = from (decLt i k)
+      where
+        from : Dec (i < k) → accepts (ledgerAt cs k) (Table c) ≡ true → takesFrom (ledgerAt cs k) u c ≡ false
+        from (yes w) = z k c w t r
+        from (no w) =
+            let v : i ≡ k = omega arith in
+            let o : Read u s f d ≡ Table c = sym p ∙ ap (callAt cs) v ∙ r in
+            let y : _≡_ {A = ℕ} 0 1 = cc in
+            absurd (omega arith)
+
+    -- the older flow f is still readable at the second read
+    still : reads now u (flowOf now s f) ≡ true
+    still =
+        let r = reader one in
+        rw (since .flows s f (one .there) .1)
+        (reads-at now u (flowOf then s f) (r .0) d (r .1) (one .inside) (one .reached) (left-at cs i j u (r .0) d (omega arith) (omega arith) nothing (r .2)))
+
+    -- the older flow g was readable at the first read: nothing new came to the user since, or row 13 would be met by the second
+    already : g < f → reads then u (flowOf then s g) ≡ true
+    already k =
+        let r = reader two in
+        let w = and-both (now .holds u (r .0)) (now .mayRead (r .0) e) (r .2) in
+        ⊎-elim
+        (λ c.
+        let v : now .version u ≤ flowOf then s g .version = rw same at (two .current) in
+        absurd (omega (arith, ordered-at cs i .flows s g older)))
+        (λ c. reads-at then u (flowOf then s g) (r .0) e (r .1) (two .inside) (rw same at (two .reached))
+        (and-true (c .held (r .0) (w .0)) (sym (c .readers (r .0) (w .0) e) ∙ w .1)))
+        (since .users u)
+      where
+        older : g < length (then .flows s)
+        older = omega (arith, one .there)
+
+        same : flowOf now s g ≡ flowOf then s g
+        same = since .flows s g older .1
+
+    go : Dec (f < g) → ⊥
+    go (yes k) = not-both now u s f g k (two .unlinked) (x k) still (reads-passed two)
+    go (no k) = let t : g < f = omega arith in not-both then u s g f t (one .unlinked) (y t) (already t) (reads-passed one)

@@ -1,0 +1,12 @@
+pub mod Laws
+pub mod Invariants
+pub mod Chains
+pub mod Granted
+pub mod SeenRows
+pub mod SeenChanges
+pub mod Seen
+pub mod Ledgers
+pub mod Meaning
+pub mod Lasting
+pub mod Kept
+pub mod Demands

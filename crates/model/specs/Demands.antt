@@ -1,0 +1,140 @@
+-- The client's demands 1 and 3. An engine is told of by its answers and the engine after each call, which the contracts promise of the code,
+-- and by what a ledger sees of it: nobody has to read how Calls works them out.
+-- Assumes nothing.
+use Prim.Native.Nat.{ℕ, zero, suc, _≤_, _<_}
+use mathlib.Core.Path.{_≡_}
+use mathlib.Core.Bool.{Bool, true, false, cond, _&&_}
+use mathlib.Core.List.{List, [], _∷_, _++_}
+use mathlib.Core.Logic.{_≢_}
+use lib.Dec.{ltb, eqb}
+use lib.ListN.{length, getD, take}
+use Rattle.sets.specs.Sets.{has, count}
+use Rattle.tables.specs.Tables.{roleCount, databaseCount, holds, mayRead, forwardsTo}
+use Rattle.model.specs.declared.Engine.{Engine}
+use Rattle.model.specs.declared.calls.Refusal.{Refusal}
+use Rattle.model.specs.declared.calls.Refusal.the-variants.{Linkable}
+use Rattle.model.specs.declared.calls.Answer.{Answer}
+use Rattle.model.specs.declared.calls.Answer.the-variants.{Version, Roles, Flow, Granted as Answer·Granted, Constraint as Answer·Constraint, Refused as Answer·Refused}
+use Rattle.model.specs.declared.calls.Change.{Change}
+use Rattle.model.specs.declared.calls.Change.the-variants.{Assign, Withdraw, Permit, Revoke, Forward}
+use Rattle.model.specs.declared.calls.Ask.the-variants.{Open, Conflicting, Add, Show}
+use Rattle.model.specs.declared.calls.Call.{Call}
+use Rattle.model.specs.declared.calls.Call.the-variants.{Table, Session, Read, Unreadable}
+use Rattle.model.specs.declared.calls.Verdict.{Verdict}
+use Rattle.model.specs.declared.calls.Verdict.the-variants.{Granted, Refused}
+use Rattle.model.specs.Limits.{sessionCount}
+use Rattle.model.specs.State.{fresh, place}
+use Rattle.model.specs.Calls.{returned, links, answer, verdict, after, flowsIn}
+use Rattle.model.specs.Ledger.{Ledger, start, flowOf, reachOf, isConflicting, holdsDenied, linked}
+use Rattle.model.specs.Ledger.{Flow as Flow·}
+use Rattle.model.specs.Refusals.{rows, firstMet, refusal, earlierRefusal, accepts, newFlow, ledgerAfter}
+
+-- ---- an engine as a ledger sees it
+
+-- the list of p 0, p 1, .. up to p (n - 1)
+unfoldable pub listOf : {A : Type 0} → ℕ → (ℕ → A) → List A
+listOf zero p = []
+listOf (suc n) p = listOf n p ++ (p n ∷ [])
+
+unfoldable pub flowSeen : Engine → ℕ → ℕ → Flow·
+flowSeen e s f = record {
+  root = getD (e .sessions .roots) (place s f) 0;
+  reach = λ d. ltb d databaseCount && has (getD (e .sessions .reaches) (place s f) 0) d;
+  version = getD (e .sessions .versions) (place s f) 0;
+  deny = λ r. ltb r roleCount && has (getD (e .sessions .denies) (place s f) 0) r;
+}
+
+unfoldable pub seen : Engine → Ledger
+seen e = record {
+  holds = λ u r. ltb r roleCount && holds (e .directory .tables) u r;
+  mayRead = λ r d. ltb r roleCount && mayRead (e .directory .tables) r d;
+  forwards = λ d x. ltb x databaseCount && forwardsTo (e .directory .tables) d x;
+  system = e .directory .version;
+  version = λ u. getD (e .directory .versions) u 0;
+  opened = λ s. ltb s 64 && has (e .sessions .opened) s;
+  flows = λ s. listOf (flowsIn (e .sessions) s) (flowSeen e s);
+}
+
+-- row 14 as an engine goes by it: its stored constraint
+unfoldable pub storedLinkable : Engine → ℕ → ℕ → ℕ → Bool
+storedLinkable e u s f = links (e .sessions) s f (getD (e .directory .tables .roles) u 0)
+
+-- ---- demand 1, for every engine and every call
+
+-- "and if accepted: ..": the answer by the ledger before the call and after it
+abbrev pub Told : Ledger → Ledger → Call → Answer → Type 0
+-- "for 01–06 the system version"
+Told l m (Table c) a = a ≡ Version (m .system)
+Told l m (Session s Open) a = a ≡ Version (m .system)
+-- "for 07 the role set": the conflicting roles with a flow of this root counted in
+Told l m (Session s (Conflicting root)) a = (x : ℕ) × (a ≡ Roles x) × ((r : ℕ) → r < roleCount → has x r ≡ isConflicting l s (newFlow l s root 0) r)
+-- "for 08 flow number, count of databases in the reach, version"
+Told l m (Session s (Add root chosen)) a = a ≡ Flow (length (l .flows s)) (count databaseCount (reachOf l root)) (l .system)
+-- for 0a the constraint of that flow
+Told l m (Session s (Show f)) a = a ≡ Answer·Constraint s f
+-- "for 09 nothing"
+Told l m (Read u s f d) a = a ≡ Answer·Granted
+Told l m Unreadable a = ⊥
+
+pub record Demand1 (e : Engine) (c : Call) : Type 0 where
+  -- what is returned is the number of the first row met, in the document's order, and 0 where none is
+  pub number : returned (verdict e c) ≡ firstMet (rows (seen e) (storedLinkable e) c)
+  -- a refused call is answered by its refusal and leaves the engine as it was
+  pub refused : (why : Refusal) → verdict e c ≡ Refused why → (answer e c ≡ Answer·Refused why) × (after e c ≡ e)
+  -- every other call ends with the answer that the document gives it
+  pub told : verdict e c ≡ Granted → Told (seen e) (seen (after e c)) c (answer e c)
+
+-- ---- demand 3
+
+unfoldable pub engineAfter : Engine → List Call → Engine
+engineAfter e [] = e
+engineAfter e (c ∷ cs) = engineAfter (after e c) cs
+
+-- call i of a list, and the engine and the ledger just before it, both fresh at the start
+unfoldable pub callAt : List Call → ℕ → Call
+callAt cs i = getD cs i Unreadable
+
+unfoldable pub engineAt : List Call → ℕ → Engine
+engineAt cs i = engineAfter fresh (take i cs)
+
+unfoldable pub ledgerAt : List Call → ℕ → Ledger
+ledgerAt cs i = ledgerAfter start (take i cs)
+
+unfoldable pub isRead : Call → Bool
+isRead (Table c) = false
+isRead (Session s a) = false
+isRead (Read u s f d) = true
+isRead Unreadable = false
+
+-- the change withdraws a role from user u, or a permission from a role that u then holds
+unfoldable pub takesFrom : Ledger → ℕ → Change → Bool
+takesFrom l u (Assign w r) = false
+takesFrom l u (Withdraw w r) = eqb w u
+takesFrom l u (Permit r d) = false
+takesFrom l u (Revoke r d) = l .holds u r
+takesFrom l u (Forward d e) = false
+
+-- One claim about a whole list of calls.
+pub record Demand3 (cs : List Call) : Type 0 where
+  -- the engine holds what the ledger holds
+  pub same : (i : ℕ) → seen (engineAt cs i) ≡ ledgerAt cs i
+  -- the number that each call returns, reads included, is that of the ledger's first row
+  pub numbered : (i : ℕ) → returned (verdict (engineAt cs i) (callAt cs i)) ≡ refusal (ledgerAt cs i) (callAt cs i)
+  -- "the engine accepts a call other than a read exactly when the ledger does"
+  pub accepting : (i : ℕ) → i < length cs → isRead (callAt cs i) ≡ false
+      → eqb (returned (verdict (engineAt cs i) (callAt cs i))) 0 ≡ accepts (ledgerAt cs i) (callAt cs i)
+  -- second half: "a read that meets no earlier row is refused as linkable exactly when its user, by the tables of that moment, holds a role
+  -- of the flow's deny set and may read at least two flows of the session, counted up to and including that one; otherwise it is granted"
+  pub second : (i u s f d : ℕ) → i < length cs → callAt cs i ≡ Read u s f d
+      → earlierRefusal (ledgerAt cs i) (Read u s f d) ≡ 0
+      → verdict (engineAt cs i) (Read u s f d) ≡ cond (linked (ledgerAt cs i) u s f) (Refused Linkable) Granted
+  -- first half: "no user is granted reads of two flows of one session". The two reads are call i and call j, of flows f and g.
+  pub first : (i j u s f g d e : ℕ) → i < j → j < length cs
+      → callAt cs i ≡ Read u s f d → callAt cs j ≡ Read u s g e → f ≢ g
+      → verdict (engineAt cs i) (Read u s f d) ≡ Granted → verdict (engineAt cs j) (Read u s g e) ≡ Granted
+      -- "at the read of the flow added later the user holds a role of its deny set"
+      → (f < g → holdsDenied (ledgerAt cs j) u (flowOf (ledgerAt cs j) s g) ≡ true)
+      → (g < f → holdsDenied (ledgerAt cs i) u (flowOf (ledgerAt cs i) s f) ≡ true)
+      -- "between the two reads no role was withdrawn from the user and no permission from a role the user then held"; "Only accepted withdrawals and revocations count"
+      → ((k : ℕ) (c : Change) → i < k → k < j → callAt cs k ≡ Table c → accepts (ledgerAt cs k) (Table c) ≡ true → takesFrom (ledgerAt cs k) u c ≡ false)
+      → ⊥

@@ -1,0 +1,15 @@
+-- Document 01, "Things and their limits". Users, roles and databases have theirs in `tables`.
+-- Assumes nothing.
+use Prim.Native.Nat.{ℕ}
+
+-- "sessions 0–15"
+abbrev pub sessionCount : ℕ
+sessionCount = 16
+
+-- "at most 8 flows a session numbered 0–7 in order of addition"
+abbrev pub flowCount : ℕ
+flowCount = 8
+
+-- "versions 0–65535"
+abbrev pub lastVersion : ℕ
+lastVersion = 65535

@@ -1,0 +1,168 @@
+-- Document 01's refusal table ("Returned when refused") over the ledger, and how the ledger takes a call.
+-- Assumes nothing.
+use Prim.Native.Nat.{ℕ, _+_, _^_}
+use mathlib.Core.Bool.{Bool, true, false, cond, not, _&&_, _||_}
+use mathlib.Core.List.{List, [], _∷_, _++_}
+use lib.Dec.{leb, ltb, eqb}
+use lib.ListN.{length}
+use Rattle.sets.specs.Sets.{has, some}
+use Rattle.tables.specs.Tables.{userCount, roleCount, databaseCount}
+use Rattle.model.specs.declared.calls.Change.{Change}
+use Rattle.model.specs.declared.calls.Change.the-variants.{Assign, Withdraw, Permit, Revoke, Forward}
+use Rattle.model.specs.declared.calls.Ask.{Ask}
+use Rattle.model.specs.declared.calls.Ask.the-variants.{Open, Conflicting, Add, Show}
+use Rattle.model.specs.declared.calls.Call.{Call}
+use Rattle.model.specs.declared.calls.Call.the-variants.{Table, Session, Read, Unreadable}
+use Rattle.model.specs.Limits.{sessionCount, flowCount, lastVersion}
+use Rattle.model.specs.Ledger.{Ledger, Flow, flowOf, reachOf, isConflicting, linked}
+
+-- the users who are due a new version from a change ("Tables and versions"); no other call gives one
+unfoldable pub due : Ledger → Change → ℕ → Bool
+due l (Assign u r) w = eqb w u
+due l (Withdraw u r) w = false
+due l (Permit r d) w = l .holds w r
+due l (Revoke r d) w = l .holds w r
+due l (Forward d e) w = false
+
+-- 9: "a new version is due and the system version is 65535"
+unfoldable pub spent : Ledger → Change → Bool
+spent l c = some userCount (due l c) && eqb (l .system) lastVersion
+
+-- 5: "some flow has been added in any session"
+unfoldable pub flowAdded : Ledger → Bool
+flowAdded l = some sessionCount (λ s. ltb 0 (length (l .flows s)))
+
+-- the deny set of the last flow, "empty for flow 0"
+unfoldable pub lastDeny : List Flow → ℕ → Bool
+lastDeny [] r = false
+lastDeny (flow ∷ []) r = flow .deny r
+lastDeny (flow ∷ next ∷ flows) r = lastDeny (next ∷ flows) r
+
+-- the flow that an addition brings: "its root, its reach by the forwarding table now, the system version as its version,
+-- and as deny set that of the flow before it joined with the chosen set"
+unfoldable pub newFlow : Ledger → ℕ → ℕ → ℕ → Flow
+newFlow l s root chosen = record { root = root; reach = reachOf l root; version = l .system; deny = λ r. lastDeny (l .flows s) r || has chosen r }
+
+-- ---- the table by calls: the numbers that a call can return, in the order of its checks, and when each is met
+
+-- 01 to 05
+unfoldable pub changeRows : Ledger → Change → List (ℕ × Bool)
+changeRows l (Assign u r) = (2, leb userCount u || leb roleCount r) ∷ (3, l .holds u r) ∷ (9, spent l (Assign u r)) ∷ []
+changeRows l (Withdraw u r) = (2, leb userCount u || leb roleCount r) ∷ (4, not (l .holds u r)) ∷ []
+changeRows l (Permit r d) = (2, leb roleCount r || leb databaseCount d) ∷ (3, l .mayRead r d) ∷ (9, spent l (Permit r d)) ∷ []
+changeRows l (Revoke r d) = (2, leb roleCount r || leb databaseCount d) ∷ (4, not (l .mayRead r d)) ∷ (9, spent l (Revoke r d)) ∷ []
+-- 3 "after 5"
+changeRows l (Forward d e) = (2, leb databaseCount d || leb databaseCount e) ∷ (5, flowAdded l) ∷ (3, l .forwards d e) ∷ []
+
+-- 06, 07, 08, 0a; a chosen role above its limit would make a number above 64 bits
+unfoldable pub askRows : Ledger → ℕ → Ask → List (ℕ × Bool)
+askRows l s Open = (2, leb sessionCount s) ∷ (3, l .opened s) ∷ []
+askRows l s (Conflicting d) = (2, leb sessionCount s || leb databaseCount d) ∷ (6, not (l .opened s)) ∷ (7, leb flowCount (length (l .flows s))) ∷ []
+askRows l s (Add d m) =
+    (2, leb sessionCount s || (leb databaseCount d || leb (2 ^ roleCount) m))
+    ∷ (6, not (l .opened s))
+    ∷ (7, leb flowCount (length (l .flows s)))
+    ∷ (8, some roleCount (λ r. has m r && not (isConflicting l s (newFlow l s d m) r)))
+    ∷ []
+askRows l s (Show f) = (2, leb sessionCount s || leb flowCount f) ∷ (6, not (l .opened s)) ∷ (10, leb (length (l .flows s)) f) ∷ []
+
+-- 09. What row 14 goes by is handed in: the ledger has its own test, and an engine goes by its stored constraint.
+unfoldable pub readRows : Ledger → (ℕ → ℕ → ℕ → Bool) → ℕ → ℕ → ℕ → ℕ → List (ℕ × Bool)
+readRows l links u s f d =
+    (2, (leb userCount u || leb databaseCount d) || (leb sessionCount s || leb flowCount f))
+    ∷ (6, not (l .opened s))
+    ∷ (10, leb (length (l .flows s)) f)
+    ∷ (11, not (flowOf l s f .reach d))
+    ∷ (12, not (some roleCount (λ r. l .holds u r && l .mayRead r d)))
+    ∷ (13, ltb (flowOf l s f .version) (l .version u))
+    ∷ (14, links u s f)
+    ∷ []
+
+unfoldable pub rows : Ledger → (ℕ → ℕ → ℕ → Bool) → Call → List (ℕ × Bool)
+rows l links (Table c) = changeRows l c
+rows l links (Session s a) = askRows l s a
+rows l links (Read u s f d) = readRows l links u s f d
+rows l links Unreadable = (1, true) ∷ []
+
+-- the number of the first row that is met, and 0 where none is
+unfoldable pub firstMet : List (ℕ × Bool) → ℕ
+firstMet [] = 0
+firstMet (row ∷ rows) = cond (row .1) (row .0) (firstMet rows)
+
+-- the first row that the call meets, by the ledger alone, and the first before 14
+unfoldable pub refusal : Ledger → Call → ℕ
+refusal l c = firstMet (rows l (linked l) c)
+
+unfoldable pub earlierRefusal : Ledger → Call → ℕ
+earlierRefusal l c = firstMet (rows l (λ u s f. false) c)
+
+-- "It accepts a call other than a read exactly when the call meets no row"
+unfoldable pub accepts : Ledger → Call → Bool
+accepts l c = eqb (refusal l c) 0
+
+-- ---- how the ledger takes a call
+
+unfoldable pub plus : (ℕ → ℕ → Bool) → ℕ → ℕ → ℕ → ℕ → Bool
+plus pairs a b c d = pairs c d || (eqb c a && eqb d b)
+
+unfoldable pub minus : (ℕ → ℕ → Bool) → ℕ → ℕ → ℕ → ℕ → Bool
+minus pairs a b c d = pairs c d && not (eqb c a && eqb d b)
+
+-- the ledger with these tables
+abbrev pub withTables : Ledger → (ℕ → ℕ → Bool) → (ℕ → ℕ → Bool) → (ℕ → ℕ → Bool) → Ledger
+withTables l holds mayRead forwards = record { holds = holds; mayRead = mayRead; forwards = forwards; system = l .system; version = l .version; opened = l .opened; flows = l .flows }
+
+-- "the pair is entered, or struck out for withdrawing and revoking"
+unfoldable pub entered : Ledger → Change → Ledger
+entered l (Assign u r) = withTables l (plus (l .holds) u r) (l .mayRead) (l .forwards)
+entered l (Withdraw u r) = withTables l (minus (l .holds) u r) (l .mayRead) (l .forwards)
+entered l (Permit r d) = withTables l (l .holds) (plus (l .mayRead) r d) (l .forwards)
+entered l (Revoke r d) = withTables l (l .holds) (minus (l .mayRead) r d) (l .forwards)
+entered l (Forward d e) = withTables l (l .holds) (l .mayRead) (plus (l .forwards) d e)
+
+-- "the system version rises by one and the named users get it", if there are any
+unfoldable pub renewed : Ledger → (ℕ → Bool) → Ledger
+renewed l named = record {
+  holds = l .holds;
+  mayRead = l .mayRead;
+  forwards = l .forwards;
+  system = cond (some userCount named) (l .system + 1) (l .system);
+  version = λ u. cond (named u) (l .system + 1) (l .version u);
+  opened = l .opened;
+  flows = l .flows;
+}
+
+-- session s is there, with these flows
+unfoldable pub withFlows : Ledger → ℕ → List Flow → Ledger
+withFlows l s flows = record {
+  holds = l .holds;
+  mayRead = l .mayRead;
+  forwards = l .forwards;
+  system = l .system;
+  version = l .version;
+  opened = λ t. l .opened t || eqb t s;
+  flows = λ t. cond (eqb t s) flows (l .flows t);
+}
+
+-- what an accepted call enters
+unfoldable pub asked : Ledger → ℕ → Ask → Ledger
+-- "the session is there, without flows"
+asked l s Open = withFlows l s []
+asked l s (Conflicting d) = l
+-- "the session gets a last flow"
+asked l s (Add d m) = withFlows l s (l .flows s ++ (newFlow l s d m ∷ []))
+asked l s (Show f) = l
+
+unfoldable pub taken : Ledger → Call → Ledger
+taken l (Table c) = renewed (entered l c) (due l c)
+taken l (Session s a) = asked l s a
+taken l (Read u s f d) = l
+taken l Unreadable = l
+
+-- "A refused call, a query or a read: it stays as it is."
+unfoldable pub ledgerStep : Ledger → Call → Ledger
+ledgerStep l c = cond (accepts l c) (taken l c) l
+
+unfoldable pub ledgerAfter : Ledger → List Call → Ledger
+ledgerAfter l [] = l
+ledgerAfter l (c ∷ cs) = ledgerAfter (ledgerStep l c) cs

@@ -1,0 +1,46 @@
+-- The readers of the flows before g are in their places.
+use Prim.Native.Nat.{_-_, _≤_}
+use mathlib.Core.Path.{_≡_, ap, _∙_}
+use native.Mathlib.Omega.{arith}
+use borrow.Author.Needs.{needs}
+use Rattle.tables.specs.Tables.{readersOf}
+use Rattle.model.specs.State.{filled, reachWith}
+use Rattle.sessions.specs.Search.{readersByFlow}
+use Rattle.model.proofs.Laws.{filled-start, filled-more}
+use Rattle.sessions.proofs.search.readers_by_flow.Statement.{statement}
+use Rattle.sessions.proofs.search.readers_by_flow.Tie as tie
+
+abbrev Inv-loop : tie.InvT-loop
+Inv-loop readers reaches s n new may₀ g₀ may g = (g ≤ 8) × (may ≡ filled 0 (λ i. readersOf 64 64 readers (reachWith reaches s n new i)) g may₀)
+
+abbrev μ-loop : tie.MeasureT-loop
+μ-loop readers reaches s n new may₀ g₀ may g = 8 - g
+
+loop-again : tie.Need-loop-again Inv-loop μ-loop
+loop-again c =
+    let at-reach-with = c .before in
+    let at-loop = at-reach-with .before .before in
+    (omega arith, filled-more 0 _ _ _ _ _ _ (at-loop .loop .inv .1) (omega arith) (c .readers .ensures ∙ ap (readersOf 64 64 _) (at-reach-with .reach-with .ensures)))
+
+returns : tie.Need-returns Inv-loop μ-loop
+unfolding readersByFlow
+returns c =
+    let at-loop = c .before in
+    let e : at-loop .loop .g ≡ 8 = omega arith in
+    rw e at (at-loop .loop .inv .1)
+
+pub readers-by-flow-spec : {M : Type 1} → statement M
+readers-by-flow-spec =
+    tie.close
+    (tie.spec
+    Inv-loop
+    μ-loop
+    (λ c. (omega arith, filled-start _ _ _))
+    (λ c κs. search needs)
+    (λ c κs. search needs)
+    (λ c. search needs)
+    (λ c. search needs)
+    (λ c. omega arith)
+    (λ c. omega arith)
+    loop-again
+    returns)

@@ -1,0 +1,212 @@
+// What is asked of sessions. Each call is checked, carried out in place on lent arrays and answered in
+// one function, which promises what the call's definition in `model` says.
+mod search;
+
+use model::Answer;
+use model::Ask;
+use model::Engine;
+use model::Refusal;
+use model::Version;
+use tables::lent;
+ghost use mathlib.Core.Path.{_≡_};
+ghost use mathlib.Core.List.{List};
+ghost use Prim.Native.Nat.{ℕ, _<_, _*_};
+ghost use Rattle.model.specs.Limits.{sessionCount, flowCount};
+ghost use Rattle.model.specs.State.{placeCount};
+ghost use Rattle.model.specs.State.{tablesOf, directoryOf, sessionsOf, denyBefore};
+ghost use Rattle.model.specs.Calls.{done, openSession, conflicting, add, show, ask};
+ghost use Rattle.sessions.specs.Search.{setsPut};
+
+// 06: session s is opened.
+pub fn open_session(opened: &mut u64, version: Version, s: usize) -> Answer
+    ensures { λ a. ⌜ ((counts roots reaches versions denies rolesets : List ℕ) → done a (sessionsOf (now (opened .exit)) counts roots reaches versions denies rolesets) ≡ openSession version (sessionsOf (now (opened .entry)) counts roots reaches versions denies rolesets) s) ⌝ }
+{
+    if Engine::SESSIONS <= s {
+        return Answer::Refused(Refusal::AboveLimit);
+    }
+    if sets::contains(*opened, s) {
+        return Answer::Refused(Refusal::AlreadyThere);
+    }
+    *opened = sets::insert(*opened, s);
+    Answer::Version(version)
+}
+
+// 07: the conflicting roles of session s, with a flow of this root counted in but not added.
+pub fn conflicting<'a>(
+    roles: &'a [u64; Engine::USERS],
+    readers: &'a [u64; Engine::DATABASES],
+    forwards: &'a [u64; Engine::DATABASES],
+    opened: u64,
+    counts: &'a [usize; Engine::SESSIONS],
+    reaches: &'a [u64; Engine::PLACES],
+    s: usize,
+    root: usize,
+) -> Answer
+    ensures { λ a. ⌜ ((roots versions denies rolesets : List ℕ) → a ≡ conflicting (tablesOf (now (roles .entry)) (now (readers .entry)) (now (forwards .entry))) (sessionsOf opened (now (counts .entry)) roots (now (reaches .entry)) versions denies rolesets) s root) ⌝ }
+{
+    if Engine::SESSIONS <= s {
+        return Answer::Refused(Refusal::AboveLimit);
+    }
+    if Engine::DATABASES <= root {
+        return Answer::Refused(Refusal::AboveLimit);
+    }
+    if !sets::contains(opened, s) {
+        return Answer::Refused(Refusal::NotOpen);
+    }
+    let n = counts[s];
+    if Engine::FLOWS <= n {
+        return Answer::Refused(Refusal::SessionFull);
+    }
+    let new = lent::reach(forwards, root);
+    let may = search::readers_by_flow(readers, reaches, s, n, new);
+    Answer::Roles(search::conflicts(roles, &may, n + 1))
+}
+
+// The deny set of the last of n flows of session s; of none it is empty.
+fn deny_before(denies: &[u64; Engine::PLACES], s: usize, n: usize) -> u64
+    requires { ⌜ s < sessionCount ⌝ }
+    requires { ⌜ n < flowCount ⌝ }
+    ensures { λ r. ⌜ r ≡ denyBefore (now (denies .entry)) s n ⌝ }
+{
+    if n == 0 {
+        return 0;
+    }
+    denies[s * Engine::FLOWS + (n - 1)]
+}
+
+// The flow at this place gets a role set for each flow: of those that may read it, the parents.
+fn put_sets<'a>(
+    rolesets: &mut [u64; Engine::ROLE_SETS],
+    may: &[u64; Engine::FLOWS],
+    parents: u64,
+    at: usize,
+)
+    requires { ⌜ at < placeCount ⌝ }
+    ensures { λ _. ⌜ now (rolesets .exit) ≡ setsPut (now (may .entry)) parents (at * flowCount) (now (rolesets .entry)) ⌝ }
+{
+    let mut g = 0usize;
+    while g < Engine::FLOWS {
+        rolesets[at * Engine::FLOWS + g] = sets::intersection(may[g], parents);
+        g += 1;
+    }
+}
+
+// 08: session s gets a flow of this root, with these roles chosen.
+pub fn add<'a>(
+    roles: &'a [u64; Engine::USERS],
+    readers: &'a [u64; Engine::DATABASES],
+    forwards: &'a [u64; Engine::DATABASES],
+    version: Version,
+    opened: u64,
+    counts: &mut [usize; Engine::SESSIONS],
+    roots: &mut [usize; Engine::PLACES],
+    reaches: &mut [u64; Engine::PLACES],
+    versions: &mut [Version; Engine::PLACES],
+    denies: &mut [u64; Engine::PLACES],
+    rolesets: &mut [u64; Engine::ROLE_SETS],
+    s: usize,
+    root: usize,
+    chosen: u64,
+) -> Answer
+    ensures { λ a. ⌜ ((users : List ℕ) → done a (sessionsOf opened (now (counts .exit)) (now (roots .exit)) (now (reaches .exit)) (now (versions .exit)) (now (denies .exit)) (now (rolesets .exit))) ≡ add (directoryOf (tablesOf (now (roles .entry)) (now (readers .entry)) (now (forwards .entry))) users version) (sessionsOf opened (now (counts .entry)) (now (roots .entry)) (now (reaches .entry)) (now (versions .entry)) (now (denies .entry)) (now (rolesets .entry))) s root chosen) ⌝ }
+{
+    if Engine::SESSIONS <= s {
+        return Answer::Refused(Refusal::AboveLimit);
+    }
+    if Engine::DATABASES <= root {
+        return Answer::Refused(Refusal::AboveLimit);
+    }
+    if !sets::contains(opened, s) {
+        return Answer::Refused(Refusal::NotOpen);
+    }
+    let n = counts[s];
+    if Engine::FLOWS <= n {
+        return Answer::Refused(Refusal::SessionFull);
+    }
+    let reach = lent::reach(forwards, root);
+    let may = search::readers_by_flow(readers, reaches, s, n, reach);
+    if search::outside(chosen, search::conflicts(roles, &may, n + 1)) {
+        return Answer::Refused(Refusal::NotConflicting);
+    }
+    let deny = sets::union(deny_before(denies, s, n), chosen);
+    let parents = lent::parents(roles, deny);
+    let at = s * Engine::FLOWS + n;
+    put_sets(rolesets, &may, parents, at);
+    counts[s] = n + 1;
+    roots[at] = root;
+    reaches[at] = reach;
+    versions[at] = version;
+    denies[at] = deny;
+    Answer::Flow {
+        number: n,
+        reach: sets::size(reach),
+        version,
+    }
+}
+
+// 0a: the constraint of flow f of session s is shown, where there is one.
+pub fn show(opened: u64, counts: &[usize; Engine::SESSIONS], s: usize, f: usize) -> Answer
+    ensures { λ a. ⌜ ((roots reaches versions denies rolesets : List ℕ) → a ≡ show (sessionsOf opened (now (counts .entry)) roots reaches versions denies rolesets) s f) ⌝ }
+{
+    if Engine::SESSIONS <= s {
+        return Answer::Refused(Refusal::AboveLimit);
+    }
+    if Engine::FLOWS <= f {
+        return Answer::Refused(Refusal::AboveLimit);
+    }
+    if !sets::contains(opened, s) {
+        return Answer::Refused(Refusal::NotOpen);
+    }
+    if counts[s] <= f {
+        return Answer::Refused(Refusal::NoSuchFlow);
+    }
+    Answer::Constraint {
+        session: s,
+        flow: f,
+    }
+}
+
+// Anything that is asked of session s.
+pub fn ask<'a>(
+    roles: &'a [u64; Engine::USERS],
+    readers: &'a [u64; Engine::DATABASES],
+    forwards: &'a [u64; Engine::DATABASES],
+    version: Version,
+    opened: &mut u64,
+    counts: &mut [usize; Engine::SESSIONS],
+    roots: &mut [usize; Engine::PLACES],
+    reaches: &mut [u64; Engine::PLACES],
+    versions: &mut [Version; Engine::PLACES],
+    denies: &mut [u64; Engine::PLACES],
+    rolesets: &mut [u64; Engine::ROLE_SETS],
+    s: usize,
+    asked: Ask,
+) -> Answer
+    ensures { λ a. ⌜ ((users : List ℕ) → done a (sessionsOf (now (opened .exit)) (now (counts .exit)) (now (roots .exit)) (now (reaches .exit)) (now (versions .exit)) (now (denies .exit)) (now (rolesets .exit))) ≡ ask (directoryOf (tablesOf (now (roles .entry)) (now (readers .entry)) (now (forwards .entry))) users version) (sessionsOf (now (opened .entry)) (now (counts .entry)) (now (roots .entry)) (now (reaches .entry)) (now (versions .entry)) (now (denies .entry)) (now (rolesets .entry))) s asked) ⌝ }
+{
+    match asked {
+        Ask::Open => open_session(opened, version, s),
+        Ask::Conflicting { root } => {
+            conflicting(roles, readers, forwards, *opened, counts, reaches, s, root)
+        }
+        Ask::Add { root, chosen } => {
+            add(
+                roles,
+                readers,
+                forwards,
+                version,
+                *opened,
+                counts,
+                roots,
+                reaches,
+                versions,
+                denies,
+                rolesets,
+                s,
+                root,
+                chosen,
+            )
+        }
+        Ask::Show { flow } => show(*opened, counts, s, flow),
+    }
+}

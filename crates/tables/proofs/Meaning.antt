@@ -1,0 +1,143 @@
+-- The theorems that specs/Meaning states.
+-- Assumes nothing.
+use Prim.Native.Nat.{ℕ, _≤_, _<_}
+use mathlib.Core.Path.{_≡_, refl}
+use mathlib.Core.Bool.{Bool, true, false, not, _&&_, _||_}
+use mathlib.Core.List.{List}
+use native.Mathlib.Decide.{decLt}
+use native.Mathlib.Omega.{arith}
+use lib.Dec.{eqb}
+use lib.ListN.{getD, set, length, replicate, getD-replicate, length-replicate, List·getD-eq-default}
+use lib.Seq.{getD-set-same, getD-set-other}
+use borrow.Author.Tests.{eqb-true, eqb-false}
+use Rattle.sets.specs.Sets.{has, some, inserted, removed, sizeOf}
+use Rattle.sets.proofs.Laws.{and-both, and-true, or-none, and-all, some-iff, some-of, some-at, some-cong, count-some, count-le, has-empty, has-inserted, has-removed}
+use Rattle.tables.specs.Rows.{there, entered, struck}
+use Rattle.tables.specs.Reach.{reach, start}
+use Rattle.tables.specs.declared.Tables.{Tables}
+use Rattle.tables.specs.Tables.{userCount, roleCount, databaseCount, fresh}
+use Rattle.tables.specs.Tables.{withRoles, withReaders, withForwards, assigned, withdrawn, permitted, revoked, forwarded, unforwarded}
+use Rattle.tables.specs.Tables.{heldBy, overlaps, parentsOf, staticallyReads}
+use Rattle.tables.specs.Meaning.{LevelMeans, ReachMeans, ReachSize, ReadersMean, ReadsMean, HeldMeans, OverlapsMean, OverlapsItself, ParentsMean, UnheldHasNone}
+use Rattle.tables.specs.Meaning.{EnteredMeans, StruckMeans, ChangesMean, FreshEmpty}
+use Rattle.tables.proofs.Paths.{level-paths, last-paths, has-image}
+
+-- ---- the reach
+
+pub level-iff : LevelMeans
+level-iff n edge root k d = level-paths n edge root k d
+
+pub reach-iff : ReachMeans
+unfolding reach
+reach-iff n forwards root d = last-paths n (there forwards) root d
+
+pub reach-size : ReachSize
+unfolding sizeOf
+reach-size n forwards root l =
+    let p : ℕ → Bool = has (reach n forwards root) in
+    (count-some n p root l (reach-iff n forwards root root .1 (0, start l)), count-le n p)
+
+-- ---- who may read
+
+pub readers-iff : ReadersMean
+readers-iff n m readers s r = has-image n m (there readers) s r
+
+pub reads-iff : ReadsMean
+unfolding staticallyReads
+reads-iff n m roles readers u s = (
+  λ h.
+      let r = some-of n (λ x. there roles u x && some m (p x)) h in
+      let e = and-both (there roles u (r .0)) (some m (p (r .0))) (r .2) in
+      let d = some-of m (p (r .0)) (e .1) in
+      let f = and-both (has s (d .0)) (there readers (d .0) (r .0)) (d .2) in
+      (r .0, r .1, e .0, (d .0, d .1, f .0, f .1)),
+  λ r. some-at n (λ x. there roles u x && some m (p x)) (r .0) (r .1) (and-true (r .2) (some-at m (p (r .0)) (r .3 .0) (r .3 .1) (and-true (r .3 .2) (r .3 .3)))),
+)
+  where
+    p : ℕ → ℕ → Bool
+    p x d = has s d && there readers d x
+
+-- ---- holders and parents
+
+pub held-iff : HeldMeans
+unfolding heldBy
+held-iff m roles r = some-iff m (λ u. there roles u r)
+
+pub overlaps-iff : OverlapsMean
+unfolding overlaps
+overlaps-iff m roles o r = (
+  λ h.
+      let u = some-of m p h in
+      let e = and-both (there roles (u .0) o) (there roles (u .0) r) (u .2) in
+      (u .0, u .1, e .0, e .1),
+  λ u. some-at m p (u .0) (u .1) (and-true (u .2) (u .3)),
+)
+  where
+    p : ℕ → Bool
+    p u = there roles u o && there roles u r
+
+pub parents-iff : ParentsMean
+unfolding parentsOf
+parents-iff n m roles s r = has-image n n (overlaps m roles) s r
+
+pub own-parent : OverlapsItself
+unfolding overlaps heldBy
+own-parent m roles r = some-cong m (λ u. there roles u r && there roles u r) (λ u. there roles u r) (λ u l. both (there roles u r))
+  where
+    both : (x : Bool) → (x && x) ≡ x
+    both true = refl
+    both false = refl
+
+pub no-parent : UnheldHasNone
+no-parent m roles o r h = let u = overlaps-iff m roles o r .0 h in held-iff m roles o .1 (u .0, u .1, u .2)
+
+-- ---- the changes
+
+-- a table with row a changed: what is in row a, and in another row
+there-set : (rows : List ℕ) (a x c d : ℕ) (after : Bool → Bool) → a < length rows → (c ≡ a → has x d ≡ after true) → there rows c d ≡ after false → there (set rows a x) c d ≡ after (eqb c a)
+unfolding there
+there-set rows a x c d after l same other = go (eqb c a) refl
+  where
+    go : (b : Bool) → eqb c a ≡ b → has (getD (set rows a x) c 0) d ≡ after b
+    go true e = rw (eqb-true c a e, getD-set-same rows a x 0 l) (same (eqb-true c a e))
+    go false e = rw (getD-set-other rows a c x 0 (eqb-false c a e)) other
+
+pub there-entered : EnteredMeans
+unfolding there entered
+there-entered n rows a b c d l k =
+    there-set rows a (inserted n (getD rows a 0) b) c d (λ x. there rows c d || (x && eqb d b)) l (λ e. rw e (has-inserted n (getD rows a 0) b d k)) (or-none (there rows c d))
+
+pub there-struck : StruckMeans
+unfolding there struck
+there-struck n rows a b c d l k =
+    there-set rows a (removed n (getD rows a 0) b) c d (λ x. there rows c d && not (x && eqb d b)) l (λ e. rw e (has-removed n (getD rows a 0) b d k)) (and-all (there rows c d))
+
+pub changes-mean : (t : Tables) → ChangesMean t
+unfolding assigned withdrawn permitted revoked forwarded unforwarded withRoles withReaders withForwards
+changes-mean t = record {
+  assigning = there-entered roleCount (t .roles);
+  withdrawing = there-struck roleCount (t .roles);
+  permitting = λ r d q e. there-entered roleCount (t .readers) d r e q;
+  revoking = λ r d q e. there-struck roleCount (t .readers) d r e q;
+  forwarding = there-entered databaseCount (t .forwards);
+  unforwarding = there-struck databaseCount (t .forwards);
+  rolesAlone = λ rows. (refl, refl);
+  readersAlone = λ rows. (refl, refl);
+  forwardsAlone = λ rows. (refl, refl);
+}
+
+-- ---- fresh tables have no pair
+
+nothing-there : (m a b : ℕ) → there (replicate m 0) a b ≡ false
+unfolding there
+nothing-there m a b = go (decLt a m)
+  where
+    go : Dec (a < m) → has (getD (replicate m 0) a 0) b ≡ false
+    go (yes l) = rw (getD-replicate {A = ℕ} m a 0 0 l) (has-empty b)
+    go (no l) =
+        let h : length (replicate {A = ℕ} m 0) ≤ a = rw (length-replicate {A = ℕ} m 0) (omega arith) in
+        rw (List·getD-eq-default (replicate m 0) 0 h) (has-empty b)
+
+pub fresh-empty : FreshEmpty
+unfolding fresh
+fresh-empty a b = (nothing-there userCount a b, nothing-there databaseCount b a, nothing-there databaseCount a b)
