@@ -7,12 +7,13 @@ use model::Refusal;
 use model::Version;
 use tables::lent;
 ghost use mathlib.Core.Path.{_≡_};
+ghost use mathlib.Core.Bool.{false};
 ghost use mathlib.Core.List.{List};
 ghost use Prim.Native.Nat.{ℕ};
 ghost use Rattle.tables.specs.Rows.{there};
-ghost use Rattle.tables.specs.Tables.{userCount};
+ghost use Rattle.tables.specs.Tables.{userCount, heldBy};
 ghost use Rattle.model.specs.State.{tablesOf, directoryOf, anyFlow, given};
-ghost use Rattle.model.specs.Calls.{done, assign, withdraw, permit, revoke, forward, change};
+ghost use Rattle.model.specs.Calls.{done, spent, toHolders, assign, withdraw, permit, revoke, forward, change};
 
 // 01: user u gets role r and a new version.
 pub fn assign(
@@ -60,21 +61,52 @@ pub fn withdraw(roles: &mut [u64; Engine::USERS], version: Version, u: usize, r:
     Answer::Version(version)
 }
 
-// The holders of role r get version v.
+// The holders of role r get version v; whether there is one.
 fn renew<'a>(
     versions: &mut [Version; Engine::USERS],
     roles: &[u64; Engine::USERS],
     r: usize,
     v: Version,
-)
-    ensures { λ _. ⌜ now (versions .exit) ≡ given (λ u. there (now (roles .entry)) u r) v userCount (now (versions .entry)) ⌝ }
+) -> bool
+    ensures { λ b. ⌜ (b ≡ heldBy userCount (now (roles .entry)) r) × (now (versions .exit) ≡ given (λ u. there (now (roles .entry)) u r) v userCount (now (versions .entry))) ⌝ }
 {
+    let mut held = false;
     let mut u = 0;
     while u < Engine::USERS {
         if lent::there(roles, u, r) {
             versions[u] = v;
+            held = true;
         }
         u += 1;
+    }
+    held
+}
+
+// Whether a new version is due to the holders of role r, and there is none left.
+fn spent(roles: &[u64; Engine::USERS], version: Version, r: usize) -> bool
+    ensures { λ b. ⌜ ((readers forwards versions : List ℕ) → b ≡ spent (directoryOf (tablesOf (now (roles .entry)) readers forwards) versions version) r) ⌝ }
+{
+    if version != Engine::LAST_VERSION {
+        return false;
+    }
+    lent::held(roles, r)
+}
+
+// A new version for the holders of role r, where there are any. At the last version there are none.
+fn to_holders<'a>(
+    roles: &[u64; Engine::USERS],
+    versions: &mut [Version; Engine::USERS],
+    version: &mut Version,
+    r: usize,
+)
+    requires { ⌜ ((readers forwards : List ℕ) → spent (directoryOf (tablesOf (now roles) readers forwards) (now versions) (now version)) r ≡ false) ⌝ }
+    ensures { λ _. ⌜ ((readers forwards : List ℕ) → directoryOf (tablesOf (now (roles .entry)) readers forwards) (now (versions .exit)) (now (version .exit)) ≡ toHolders (directoryOf (tablesOf (now (roles .entry)) readers forwards) (now (versions .entry)) (now (version .entry))) r) ⌝ }
+{
+    if *version < Engine::LAST_VERSION {
+        let v = *version + 1;
+        if renew(versions, roles, r, v) {
+            *version = v;
+        }
     }
 }
 
@@ -98,18 +130,12 @@ pub fn permit<'a>(
     if lent::there(readers, d, r) {
         return Answer::Refused(Refusal::AlreadyThere);
     }
-    if !lent::held(roles, r) {
-        lent::enter(readers, d, r);
-        return Answer::Version(*version);
-    }
-    if *version == Engine::LAST_VERSION {
+    if spent(roles, *version, r) {
         return Answer::Refused(Refusal::VersionsSpent);
     }
-    let v = *version + 1;
     lent::enter(readers, d, r);
-    renew(versions, roles, r, v);
-    *version = v;
-    Answer::Version(v)
+    to_holders(roles, versions, version, r);
+    Answer::Version(*version)
 }
 
 // 04: role r may not read database d any more, and its holders get a new version.
@@ -132,18 +158,12 @@ pub fn revoke<'a>(
     if !lent::there(readers, d, r) {
         return Answer::Refused(Refusal::NotThere);
     }
-    if !lent::held(roles, r) {
-        lent::strike(readers, d, r);
-        return Answer::Version(*version);
-    }
-    if *version == Engine::LAST_VERSION {
+    if spent(roles, *version, r) {
         return Answer::Refused(Refusal::VersionsSpent);
     }
-    let v = *version + 1;
     lent::strike(readers, d, r);
-    renew(versions, roles, r, v);
-    *version = v;
-    Answer::Version(v)
+    to_holders(roles, versions, version, r);
+    Answer::Version(*version)
 }
 
 // Whether any session has a flow.

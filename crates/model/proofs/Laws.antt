@@ -166,7 +166,7 @@ pub given-same : (named : ℕ → Bool) (v n : ℕ) (l l′ : List ℕ) → l′
 given-same named v n l l′ e h = rw (add-one, e) (sym (given-miss named v n l h))
 
 -- nobody is named; one user is
-given-none : (named : ℕ → Bool) (v n : ℕ) (l : List ℕ) → ((w : ℕ) → w < n → named w ≡ false) → given named v n l ≡ l
+pub given-none : (named : ℕ → Bool) (v n : ℕ) (l : List ℕ) → ((w : ℕ) → w < n → named w ≡ false) → given named v n l ≡ l
 unfolding given
 given-none named v zero l f = refl
 given-none named v (suc n) l f = given-miss named v n l (f n (omega arith)) ∙ given-none named v n l (λ w k. f w (omega arith))

@@ -119,26 +119,26 @@ pub fn add<'a>(
     if !sets::contains(opened, s) {
         return Answer::Refused(Refusal::NotOpen);
     }
-    let n = counts[s];
-    if Engine::FLOWS <= n {
+    let number = counts[s];
+    if Engine::FLOWS <= number {
         return Answer::Refused(Refusal::SessionFull);
     }
     let reach = lent::reach(forwards, root);
-    let may = search::readers_by_flow(readers, reaches, s, n, reach);
-    if search::outside(chosen, search::conflicts(roles, &may, n + 1)) {
+    let may = search::readers_by_flow(readers, reaches, s, number, reach);
+    if search::outside(chosen, search::conflicts(roles, &may, number + 1)) {
         return Answer::Refused(Refusal::NotConflicting);
     }
-    let deny = sets::union(deny_before(denies, s, n), chosen);
+    let deny = sets::union(deny_before(denies, s, number), chosen);
     let parents = lent::parents(roles, deny);
-    let at = s * Engine::FLOWS + n;
+    let at = s * Engine::FLOWS + number;
     put_sets(rolesets, &may, parents, at);
-    counts[s] = n + 1;
+    counts[s] = number + 1;
     roots[at] = root;
     reaches[at] = reach;
     versions[at] = version;
     denies[at] = deny;
     Answer::Flow {
-        number: n,
+        number,
         reach: sets::size(reach),
         version,
     }

@@ -25,12 +25,16 @@ loop-holds c = (omega arith, some-none _)
 
 returns : tie.Need-returns Inv-loop μ-loop
 unfolding anyFlow
-returns c = sym (some-at 16 _ _ (omega arith) (lt-ltb _ _ (c .if1 .taken)))
+returns c =
+    let at-loop = c .before .before .before in
+    let flows = getD (at-loop .before .args .counts .now) (at-loop .loop .s) 0 in
+    sym (some-at 16 _ _ (omega arith) (lt-ltb 0 flows (omega arith)))
 
 loop-again : tie.Need-loop-again Inv-loop μ-loop
 loop-again c =
     let at-loop = c .before .before .before in
-    (omega arith, none-yet _ _ (at-loop .loop .inv .1) (le-ltb _ _ (c .if1 .left)))
+    let flows = getD (at-loop .before .args .counts .now) (at-loop .loop .s) 0 in
+    (omega arith, none-yet _ _ (at-loop .loop .inv .1) (le-ltb 0 flows (omega arith)))
 
 returns-2 : tie.Need-returns-2 Inv-loop μ-loop
 unfolding anyFlow
