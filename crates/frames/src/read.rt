@@ -1,4 +1,5 @@
 // Reading a frame: two digits give the kind, and the fields are taken from the rest of the line.
+use super::SET_DIGITS;
 use super::digits;
 use super::next;
 use engine::Ask;
@@ -11,6 +12,13 @@ ghost use lib.ListN.{length, take, drop};
 ghost use Rattle.protocol.specs.Digits.{allDigits, number};
 ghost use Rattle.protocol.specs.Lines.{field, callOf};
 ghost use Rattle.frames.specs.Fields.{Highs, Lows, Two, ended, frameAt};
+
+// How many digits an addition's fields have, its whole frame, and its fields with a line feed.
+const ADDITION: usize = 2 * 2 + SET_DIGITS;
+
+const ADDITION_FRAME: usize = 2 + ADDITION;
+
+const ADDITION_LINE: usize = ADDITION + 1;
 
 // The frame that an input begins with: its call, and how many digits it has. Where it begins with
 // none, there is no call and no digit.
@@ -122,7 +130,7 @@ fn sixteen<'a>(high: &'a [u16; 256], low: &'a [u16; 256], s: &'a [u8]) -> Chosen
 {
     let mut set: u64 = 0;
     let mut i = 0usize;
-    while i < 16 {
+    while i < SET_DIGITS {
         let v = two(high, low, s, i);
         if 256 <= v {
             return Chosen::Bad;
@@ -139,10 +147,10 @@ fn fields_and_set<'a>(high: &'a [u16; 256], low: &'a [u16; 256], s: &'a [u8]) ->
     requires { ⌜ Lows (now low) ⌝ }
     ensures { λ r. ⌜ r ≡ cond (ended 20 (now (s .entry))) (Addition.Of (field (now (s .entry)) 0) (field (now (s .entry)) 1) (number (take 16 (drop 4 (now (s .entry)))))) Addition.Bad ⌝ }
 {
-    if s.len() < 21 {
+    if s.len() < ADDITION_LINE {
         return Addition::Bad;
     }
-    if s[20] != 10 {
+    if s[ADDITION] != 10 {
         return Addition::Bad;
     }
     let a = two(high, low, s, 0);
@@ -230,7 +238,7 @@ pub(crate) fn decode<'a>(high: &'a [u16; 256], low: &'a [u16; 256], line: &'a [u
                     session,
                     ask: Ask::Add { root, chosen },
                 },
-                22,
+                ADDITION_FRAME,
             ),
             Addition::Bad => no_frame(),
         },

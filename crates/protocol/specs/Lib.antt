@@ -4,4 +4,3 @@ pub mod Digits
 pub mod Lines
 pub mod Run
 pub mod Demands
-pub mod Worked

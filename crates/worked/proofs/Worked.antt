@@ -8,11 +8,11 @@ use Rattle.tables.specs.Tables.{withRoles, withReaders, withForwards, assigned,
 use Rattle.tables.specs.Tables.{fresh as emptyTables}
 use Rattle.model.specs.State.{filled, place, setPlace, anyFlow, reachWith, conflicts, outside, denyBefore, roleSet, linkable, rolesetAt, given, newVersion, fresh}
 use Rattle.model.specs.Calls.{numberOf, returned, verdictOf, toHolders, spent, assign, withdraw, permit, revoke, forward, openSession, conflictsIn, conflicting, withFlow, add, show, links, read, answerOf, change, ask, step, answer, after, constraintAt}
 use Rattle.protocol.specs.Digits.{digit, allDigits, numberFrom, number, glyph, hex}
 use Rattle.protocol.specs.Lines.{field, restDigits, called, frame, callOf, roleSets, values, lineOf}
 use Rattle.protocol.specs.Run.{withByte, split, lastCall, callsOf, shownIn, reply, replies, run}
-use Rattle.protocol.specs.Worked.{worked, inputOf, outputOf, Settled}
+use Rattle.worked.specs.Worked.{worked, inputOf, outputOf, Settled}
 use Rattle.protocol.proofs.Exact.{exact}
 
 by-computing : run (inputOf worked) ≡ outputOf worked
 unfolding has setOf some count inserted removed joined shared lacking meeting sizeOf there entered struck image onward level reach withRoles withReaders withForwards assigned withdrawn permitted revoked forwarded heldBy overlaps parentsOf staticallyReads emptyTables filled place setPlace anyFlow reachWith conflicts outside denyBefore roleSet linkable rolesetAt given newVersion fresh numberOf returned verdictOf toHolders spent assign withdraw permit revoke forward openSession conflictsIn conflicting withFlow add show links read answerOf change ask step answer after constraintAt digit allDigits numberFrom number glyph hex field restDigits called frame callOf roleSets values lineOf withByte split lastCall callsOf shownIn reply replies run worked inputOf outputOf
