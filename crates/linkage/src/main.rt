@@ -197,6 +197,9 @@ fn feed_all(
             break;
         }
         taken = went.taken;
+        if piece.len() <= taken {
+            break;
+        }
         turns -= 1;
     }
     Went {
