@@ -72,9 +72,6 @@ module _ {A : Type 0} where
           let k : i < length (listOf n p) = omega (arith, length-listOf n p) in
           List·getD-append (listOf n p) (p n ∷ []) d i k ∙ f h
 
-  pub getD-listOf-past : (n : ℕ) (p : ℕ → A) (i : ℕ) (d : A) → n ≤ i → getD (listOf n p) i d ≡ d
-  getD-listOf-past n p i d l = List·getD-eq-default (listOf n p) d (omega (arith, length-listOf n p))
-
 -- ---- an array that is filled from `at` on
 
 module _ (at : ℕ) (p : ℕ → ℕ) where
