@@ -38,7 +38,7 @@ use Rattle.model.specs.State.{fresh, engineOf, filled, place, reachWith,
 use Rattle.model.specs.Calls.{numberOf, returned, verdictOf, withTables, toHolders, bar, conflictsIn, withFlow, show, links, read, answerOf, ask, step, answer, verdict, after, constraintAt, shownBy}
 use Rattle.model.specs.Demands.{engineAfter, engineAt}
 use Rattle.model.specs.Meaning.{One, Meets, flowsOf, reachOf, versionOf, denyOf, rolesOf, heldOf, userVersion, ReadsTwo, Links, SetsMean, countedIn, QueryMeans}
-use Rattle.model.specs.Meaning.{Renewed, RenewedHolders, Changes, SameFlow, Opened, Added, Means, Checked, ReadMeans, ShowMeans, FreshMeans}
+use Rattle.model.specs.Meaning.{Renewed, RenewedHolders, Changes, SameFlow, Opened, Added, Means, ValueMeans, Checked, ReadMeans, ShowMeans, FreshMeans}
 use Rattle.model.proofs.Laws.{getD-same, getD-filled, getD-given, places, place-lt, roleset-put, roleset-stays}
 use Rattle.model.proofs.Invariants.{Sized}
 use Rattle.model.proofs.Chains.{refused-answer}
@@ -285,13 +285,12 @@ changes e (Forward d x) z = (refl, record { stays = refl; kept = refl })
 
 -- ---- an opening
 
-opened : (e : Engine) (s : ℕ) → Sized e → verdict e (Session s Open) ≡ Granted → Opened e (changed e (Session s Open)) s
+opened : (e : Engine) (s : ℕ) → flowsOf e s ≡ 0 → Opened e (changed e (Session s Open)) s
 unfolding changed changedSessions sessionOpened
-opened e s z h =
-    let w = within-open e s h in
+opened e s n =
     record {
       opened = λ t l. entered t (has-inserted 64 (e .sessions .opened) s t (omega arith));
-      flowless = z .shut s (w .0) (w .1);
+      flowless = n;
       counts = λ t. refl;
       flows = λ t f. record { root = refl; reach = refl; version = refl; deny = refl; roles = λ g l. refl };
       directory = refl;
@@ -309,7 +308,7 @@ opened e s z h =
 pub means : (e : Engine) (c : Call) → Sized e → verdict e c ≡ Granted → Means e (changed e c) c
 unfolding changed changedSessions verdict answer step verdictOf
 means e (Table c) z h = (changes e c (z .users), refl)
-means e (Session s Open) z h = opened e s z h
+means e (Session s Open) z h = let w = within-open e s h in opened e s (z .shut s (w .0) (w .1))
 means e (Session s (Conflicting root)) z h = refl
 means e (Session s (Add root chosen)) z h = added e s root chosen z h
 means e (Session s (Show f)) z h = refl
@@ -328,6 +327,17 @@ sized-at cs i = sized-later fresh (take i cs) sized-fresh
 -- on an engine that any calls led to
 pub call-means : (cs : List Call) (i : ℕ) (c : Call) → verdict (engineAt cs i) c ≡ Granted → Means (engineAt cs i) (after (engineAt cs i) c) c
 call-means cs i c h = rw (granted-after (engineAt cs i) c h) (means (engineAt cs i) c (sized-at cs i) h)
+
+-- and for any engine by value
+pub value-means : (e : Engine) → ValueMeans e
+unfolding after step ask changed
+value-means e = record {
+  change = λ c z h. rw (granted-after e (Table c) h) (changes e c z, refl);
+  opening = λ s n h. rw (granted-after e (Session s Open) h) (opened e s n);
+  query = λ s root. refl;
+  shown = λ s f. refl;
+  read = λ u s f d. refl;
+}
 
 -- ---- 0a
 

@@ -21,7 +21,7 @@ use Rattle.model.specs.declared.calls.Verdict.the-variants.{Granted, Ref
 use Rattle.model.specs.declared.calls.Answer.the-variants.{Roles, Constraint as Answer·Constraint, Refused as Answer·Refused}
 use Rattle.model.specs.Limits.{sessionCount, flowCount}
 use Rattle.model.specs.State.{place, reachWith, conflicts, outside, roleSet, linkable, rolesetAt}
-use Rattle.model.specs.Calls.{flowsIn, conflictsIn, answer, verdict, shownBy}
+use Rattle.model.specs.Calls.{flowsIn, conflictsIn, answer, verdict, after, shownBy}
 
 -- ---- words
 
@@ -185,6 +185,15 @@ Means old new (Session s (Add root chosen)) = Added old new s root chosen
 Means old new (Session s (Show f)) = new ≡ old
 Means old new (Read u s f d) = new ≡ old
 Means old new Unreadable = ⊥
+
+-- For any engine by value, reached by calls or not: what an accepted change or opening leaves, and that a question or a read leaves all.
+-- The versions of a value are an array of 256; a session that is opened has no flows yet.
+pub record ValueMeans (e : Engine) : Type 0 where
+  pub change : (c : Change) → length (e .directory .versions) ≡ userCount → verdict e (Table c) ≡ Granted → Means e (after e (Table c)) (Table c)
+  pub opening : (s : ℕ) → flowsOf e s ≡ 0 → verdict e (Session s Open) ≡ Granted → Means e (after e (Session s Open)) (Session s Open)
+  pub query : (s root : ℕ) → after e (Session s (Conflicting root)) ≡ e
+  pub shown : (s f : ℕ) → after e (Session s (Show f)) ≡ e
+  pub read : (u s f d : ℕ) → after e (Read u s f d) ≡ e
 
 -- ---- the verdict on a read
 
