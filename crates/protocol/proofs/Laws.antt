@@ -298,11 +298,12 @@ feed-there (b ∷ bs) l = go (eqb b lineFeed) refl l (feed-there bs)
 fed-no-room : (room : ℕ) (e : Engine) (line bytes : List ℕ) → room < longest → fedFrom room e line bytes ≡ waiting e (line ++ bytes)
 unfolding fedFrom
 fed-no-room room e line [] r = rw append-nil
-fed-no-room room e line (b ∷ bytes) r = rw (lt-ltb room longest r, fed-no-room room e (line ++ (b ∷ [])) bytes r, append-snoc) (same (eqb b lineFeed))
+fed-no-room room e line (b ∷ bytes) r =
+    rw (lt-ltb room longest r) (same (eqb b lineFeed) (fed-no-room room e (line ++ (b ∷ [])) bytes r ∙ rw append-snoc))
   where
-    same : (t : Bool) → cond t (waiting e (line ++ (b ∷ bytes))) (waiting e (line ++ (b ∷ bytes))) ≡ waiting e (line ++ (b ∷ bytes))
-    same true = refl
-    same false = refl
+    same : (t : Bool) {z : Fed} → z ≡ waiting e (line ++ (b ∷ bytes)) → cond t (waiting e (line ++ (b ∷ bytes))) z ≡ waiting e (line ++ (b ∷ bytes))
+    same true h = refl
+    same false h = h
 
 pub no-room : (room : ℕ) (e : Engine) (bytes : List ℕ) → room < longest → fed room e bytes ≡ waiting e bytes
 unfolding fed
