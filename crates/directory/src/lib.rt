@@ -10,7 +10,7 @@ ghost use mathlib.Core.Path.{_≡_};
 ghost use mathlib.Core.Bool.{false};
 ghost use mathlib.Core.List.{List};
 ghost use Prim.Native.Nat.{ℕ};
-ghost use Rattle.tables.specs.Rows.{there};
+ghost use Rattle.rows.specs.Rows.{there};
 ghost use Rattle.tables.specs.Tables.{userCount, heldBy};
 ghost use Rattle.model.specs.State.{tablesOf, directoryOf, anyFlow, given};
 ghost use Rattle.model.specs.Calls.{done, spent, toHolders, assign, withdraw, permit, revoke, forward, change};

@@ -7,6 +7,7 @@ use native.Mathlib.Omega.{arith}
 use lib.Dec.{leb}
 use borrow.Author.Tests.{leb-false}
 use Rattle.sets.specs.Sets.{has}
+use Rattle.model.specs.Limits.{sessionCount, flowCount}
 use Rattle.model.specs.declared.Directory.{Directory}
 use Rattle.model.specs.declared.Sessions.{Sessions}
 use Rattle.model.specs.declared.calls.Answer.{Answer}
@@ -39,9 +40,9 @@ unless-granted true why a h = let z : _≡_ {A = ℕ} 0 1 = cc in absurd (omega 
 unless-granted false why a h = (refl, h)
 
 -- a constraint that is shown is that of a session and a flow below their limits
-pub show-within : (S : Sessions) (s f : ℕ) → verdictOf (show S s f) ≡ Granted → (s < 16) × (f < 8)
+pub show-within : (S : Sessions) (s f : ℕ) → verdictOf (show S s f) ≡ Granted → (s < sessionCount) × (f < flowCount)
 unfolding show
 show-within S s f h =
     let open′ : Answer = unless (not (has (S .opened) s)) NotOpen (unless (leb (flowsIn S s) f) NoSuchFlow (Constraint s f)) in
-    let p = unless-granted (leb 16 s) AboveLimit (unless (leb 8 f) AboveLimit open′) h in
-    (leb-false 16 s (p .0), leb-false 8 f (unless-granted (leb 8 f) AboveLimit open′ (p .1) .0))
+    let p = unless-granted (leb sessionCount s) AboveLimit (unless (leb flowCount f) AboveLimit open′) h in
+    (leb-false sessionCount s (p .0), leb-false flowCount f (unless-granted (leb flowCount f) AboveLimit open′ (p .1) .0))

@@ -24,39 +24,11 @@ use Rattle.protocol.specs.Digits.{glyph, hex}
 use Rattle.protocol.specs.Lines.{callOf, values, lineOf, lineFeed}
 use Rattle.protocol.specs.Run.{lastCall, reply, replies, run, Fed, wrote, fed, feedAt, finish, shownIn}
 use Rattle.protocol.proofs.Laws.{more, run-more, more-end, more-line, feedAt-le, feed-there, no-feed-of, no-feed-before, no-more, one-line, fed-run, fed-left, fed-fits}
-use Rattle.frames.specs.declared.write.Line.{Line}
-use Rattle.frames.specs.declared.write.Line.the-variants.{Written, NoRoom}
+use Rattle.encoding.specs.declared.Line.{Line}
+use Rattle.encoding.specs.declared.Line.the-variants.{Written, NoRoom}
 use Rattle.frames.specs.declared.stream.Fed.{Fed as Given}
-use Rattle.frames.specs.Stream.{Feeds, ending, endAnswer, endWritten, takesWhole, ranOutput, Ran}
-use Rattle.frames.proofs.Writing.{wrote-stores}
-
-abbrev Ended : List ℕ → List ℕ → ℕ → List ℕ → Line → Type 0
-Ended old new at bytes r = (r ≡ endAnswer old at bytes) × (new ≡ endWritten old at bytes)
-
--- no line has begun
-pub ended-none : (old : List ℕ) (len at : ℕ) → len ≡ 0 → at ≤ length old → Ended old old at (ending len) (Written at)
-unfolding ending endAnswer endWritten
-ended-none old len at q l = let z : at + 0 ≡ at = omega arith in rw (q, z, le-leb at (length old) l) (refl, sym (take-append-drop at old))
-
-three : (len : ℕ) → (len ≡ 0 → ⊥) → ending len ≡ 48 ∷ 49 ∷ lineFeed ∷ []
-unfolding ending
-three zero h = absurd (h refl)
-three (suc n) h = refl
-
--- too little room
-pub ended-short : (old : List ℕ) (len at : ℕ) → (len ≡ 0 → ⊥) → at ≤ length old → length old - at < 3 → Ended old old at (ending len) NoRoom
-unfolding endAnswer endWritten
-ended-short old len at q l h = rw (three len q, lt-leb (at + 3) (length old) (omega arith)) (refl, refl)
-
--- the number is stored
-pub ended-line : (old : List ℕ) (len at : ℕ) → (len ≡ 0 → ⊥) → at ≤ length old → 3 ≤ length old - at → Ended old (set (set (set old at 48) (at + 1) 49) (at + 2) 10) at (ending len) (Written (at + 3))
-unfolding endAnswer endWritten
-ended-line old len at q l h =
-    let w = wrote-stores (48 ∷ 49 ∷ lineFeed ∷ []) old at (omega arith) in
-    rw (three len q, le-leb (at + 3) (length old) (omega arith)) (refl, rw (add-one at, add-two at) (w .holds))
-  where
-    add-two : (n : ℕ) → n + 2 ≡ suc (suc n)
-    add-two n = omega arith
+use Rattle.encoding.specs.Written.{ending, endAnswer, endWritten}
+use Rattle.frames.specs.Stream.{Feeds, takesWhole, ranOutput, Ran}
 
 -- what the machine still writes at the end
 finish-ending : (e : Engine) (line : List ℕ) → finish e line ≡ ending (length line)
@@ -156,12 +128,6 @@ fedIn input old = fed (length old) fresh input
 module _ (input old new : List ℕ) (e : Engine) (f : Given) (g : Feeds input old new e (fed (length old) fresh input) f) where
   pub taken-within : f .consumed ≤ length input
   taken-within = omega (arith, g .consumed)
-
-  -- what was written stands in the buffer
-  pub fed-place : f .written ≤ length new
-  fed-place =
-      let l = fed-fits (length old) fresh input in
-      omega (arith, g .written, whole-put (fedIn input old .written) [] old new l (g .output) .0)
 
   left-long : length (fedIn input old .left) ≡ length input - f .consumed
   left-long = omega (arith, g .consumed, fed-left (length old) fresh input .0)

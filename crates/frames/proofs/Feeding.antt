@@ -13,11 +13,17 @@ use Rattle.protocol.specs.Widths.{longest}
 use Rattle.protocol.specs.Lines.{callOf}
 use Rattle.protocol.specs.Run.{Fed, wrote, fed, feedAt, reply}
 use Rattle.protocol.proofs.Laws.{waiting, one-line, no-room, no-more, feedAt-le, fed-shorter, wrote-none, wrote-wrote}
-use Rattle.frames.specs.declared.next.Line.{Line as Next}
-use Rattle.frames.specs.Fields.{NextLine}
-use Rattle.frames.specs.Written.{Wrote}
+use Rattle.decoding.specs.declared.lines.NextLine.{NextLine}
+use Rattle.decoding.specs.Fields.{highTable, lowTable}
+use Rattle.decoding.specs.Frames.{nextBy, LineAt}
+use Rattle.decoding.proofs.Meaning.{Bytes, next-right}
+use Rattle.encoding.specs.Written.{Wrote}
+use Rattle.encoding.proofs.Writing.{wrote-nothing, wrote-length, wrote-both}
 use Rattle.frames.specs.Stream.{Feeds}
-use Rattle.frames.proofs.Writing.{wrote-nothing, wrote-length, wrote-both}
+
+-- by the tables of the digits the next line is what it says
+pub line-read : {s high low : List ℕ} {at : ℕ} {r : NextLine} → high ≡ highTable → low ≡ lowTable → Bytes s → r ≡ nextBy high low s at → LineAt s at r
+line-read {s} {high} {low} {at} h l b e = rw (e, h, l) (next-right s at b)
 
 -- the bytes are the answers so far
 pub record Feeding (input out₀ : List ℕ) (e₀ : Engine) (out : List ℕ) (e : Engine) (at written : ℕ) : Type 0 where
@@ -44,7 +50,7 @@ module _ (input out₀ : List ℕ) (e₀ : Engine) (out : List ℕ) (e : Engine)
   written-fits = omega (arith, out-long, g .put .room, g .put .place)
 
   -- one line more is answered
-  pub feeding-step : (r : Next) (out′ : List ℕ) (e′ : Engine) (written′ : ℕ) → NextLine input at r → r .end < length input → longest ≤ length out - written
+  pub feeding-step : (r : NextLine) (out′ : List ℕ) (e′ : Engine) (written′ : ℕ) → LineAt input at r → r .end < length input → longest ≤ length out - written
       → e′ ≡ after e (r .call) → Wrote out out′ written written′ (reply e (r .call)) → Feeding input out₀ e₀ out′ e′ (r .end + 1) written′
   feeding-step r out′ e′ written′ n l room p w =
       let c : Call = callOf (take (feedAt (drop at input)) (drop at input)) in
@@ -92,5 +98,5 @@ module _ (input out₀ : List ℕ) (e₀ : Engine) (out : List ℕ) (e : Engine)
   ends-full l = feeding-feeds (inl l)
 
   -- the rest is a line that has no line feed
-  pub ends-open : (r : Next) → NextLine input at r → length input ≤ r .end → Feeds input out₀ out e (fed (length out₀) e₀ input) (record { consumed = at; written = written })
+  pub ends-open : (r : NextLine) → LineAt input at r → length input ≤ r .end → Feeds input out₀ out e (fed (length out₀) e₀ input) (record { consumed = at; written = written })
   ends-open r n l = feeding-feeds (inr (omega (arith, n .place, feedAt-le (drop at input), length-drop at input)))

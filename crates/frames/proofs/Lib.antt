@@ -1,7 +1,3 @@
-pub mod Reading
-pub mod Lines
-pub mod Writing
-pub mod Answering
-pub mod Keeping
-pub mod Feeding
-pub mod Endings
+mod Answering
+mod Feeding
+mod Endings

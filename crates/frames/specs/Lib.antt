@@ -1,3 +1,1 @@
-pub mod Fields
-pub mod Written
 pub mod Stream

@@ -1,19 +1,18 @@
--- What a caller of the stream's functions gets: by the machine `fed`, the end of input, and a whole run in one buffer.
+-- What a caller of the stream's functions gets: by the machine `fed`, and a whole run in one buffer.
 -- Assumes nothing.
-use Prim.Native.Nat.{ℕ, zero, suc, _+_, _-_, _≤_, _<_, min}
+use Prim.Native.Nat.{ℕ, _+_, _-_, _≤_, _<_}
 use mathlib.Core.Path.{_≡_}
 use mathlib.Core.Bool.{Bool, true, false, cond, _&&_}
-use mathlib.Core.List.{List, [], _∷_, _++_}
+use mathlib.Core.List.{List, _++_}
 use lib.Dec.{eqb, leb}
-use lib.ListN.{length, take, drop}
+use lib.ListN.{length, drop}
 use Rattle.model.specs.declared.Engine.{Engine}
 use Rattle.model.specs.State.{fresh}
 use Rattle.protocol.specs.Widths.{longest}
-use Rattle.protocol.specs.Lines.{lineFeed}
-use Rattle.protocol.specs.Run.{run, Fed, fed, feedAt, keptOf}
+use Rattle.protocol.specs.Run.{run, Fed, fed, feedAt}
 use Rattle.frames.specs.declared.stream.Fed.{Fed as Given}
-use Rattle.frames.specs.declared.write.Line.{Line}
-use Rattle.frames.specs.declared.write.Line.the-variants.{Written, NoRoom}
+use Rattle.encoding.specs.declared.Line.{Line}
+use Rattle.encoding.specs.declared.Line.the-variants.{Written, NoRoom}
 
 -- what is given back of a piece of input is what the machine does: how much was taken, what was written at the start of the buffer, the rest of it as it was,
 -- and the engine after it; where the longest answer has room, a piece with a whole line in it is not given back whole
@@ -23,27 +22,6 @@ pub record Feeds (input old new : List ℕ) (after : Engine) (x : Fed) (r : Give
   pub output : new ≡ x .written ++ drop (length (x .written)) old
   pub engine : after ≡ x .engine
   pub progress : longest ≤ length old → feedAt input < length input → 0 < r .consumed
-
--- the part of a buffer between two places, which are cut to its length
-unfoldable pub between : List ℕ → ℕ → ℕ → List ℕ
-between buffer from to = let end : ℕ = min to (length buffer) in take (end - min from end) (drop (min from end) buffer)
-
--- ---- the end of input
-
--- what a line so far of this length still answers: nothing, or the number of row 1, as digits
-unfoldable pub ending : ℕ → List ℕ
-ending zero = []
-ending (suc n) = 0x30 ∷ 0x31 ∷ lineFeed ∷ []
-
--- bytes are written from `at` on where they fit, and else nothing is: the answer is the place behind them, and the buffer has them
-abbrev pub fits : List ℕ → ℕ → List ℕ → Bool
-fits old at bytes = leb (at + length bytes) (length old)
-
-unfoldable pub endAnswer : List ℕ → ℕ → List ℕ → Line
-endAnswer old at bytes = cond (fits old at bytes) (Written (at + length bytes)) NoRoom
-
-unfoldable pub endWritten : List ℕ → ℕ → List ℕ → List ℕ
-endWritten old at bytes = cond (fits old at bytes) (take at old ++ (bytes ++ drop (at + length bytes) old)) old
 
 -- ---- a whole run in one buffer
 

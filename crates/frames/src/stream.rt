@@ -1,25 +1,20 @@
 // A run as a stream: input comes in pieces of any size, and answers go out into a lent buffer. The
 // engine's arrays are the caller's, who lends them for each piece.
-use super::KEPT;
 use super::LONGEST;
-use super::digits;
-use super::next;
-use super::write;
-use super::write::Line;
+use encoding::Line;
 use engine::Call;
 use engine::Engine;
 use engine::Version;
 use engine::step;
 ghost use mathlib.Core.Path.{_≡_};
-ghost use Prim.Native.Nat.{_+_, _≤_, min};
-ghost use lib.ListN.{length, take};
+ghost use Prim.Native.Nat.{_+_, _≤_};
+ghost use lib.ListN.{length};
 ghost use Rattle.model.specs.State.{tablesOf, directoryOf, sessionsOf, engineOf};
 ghost use Rattle.model.specs.Calls.{after};
 ghost use Rattle.protocol.specs.Widths.{longest};
-ghost use Rattle.protocol.specs.Run.{reply, fed, keptOf};
-ghost use Rattle.frames.specs.Fields.{Glyphs};
-ghost use Rattle.frames.specs.Written.{Wrote};
-ghost use Rattle.frames.specs.Stream.{Feeds, between, ending, endAnswer, endWritten};
+ghost use Rattle.protocol.specs.Run.{reply, fed};
+ghost use Rattle.encoding.specs.Written.{Wrote, ending, endAnswer, endWritten};
+ghost use Rattle.frames.specs.Stream.{Feeds};
 
 // How many bytes of the input were taken and of the output written.
 pub struct Fed {
@@ -42,12 +37,10 @@ fn answer_call(
     versions: &mut [Version; Engine::PLACES],
     denies: &mut [u64; Engine::PLACES],
     rolesets: &mut [u64; Engine::ROLE_SETS],
-    glyphs: &[u8; 16],
     call: Call,
     out: &mut [u8],
     at: usize,
 ) -> usize
-    requires { ⌜ Glyphs (now glyphs) ⌝ }
     requires { ⌜ at + longest ≤ length (now out) ⌝ }
     ensures engine { λ _. ⌜ (engineOf (directoryOf (tablesOf (now (roles .exit)) (now (readers .exit)) (now (forwards .exit))) (now (users .exit)) (now (version .exit))) (sessionsOf (now (opened .exit)) (now (counts .exit)) (now (roots .exit)) (now (reaches .exit)) (now (versions .exit)) (now (denies .exit)) (now (rolesets .exit)))) ≡ after (engineOf (directoryOf (tablesOf (now (roles .entry)) (now (readers .entry)) (now (forwards .entry))) (now (users .entry)) (now (version .entry))) (sessionsOf (now (opened .entry)) (now (counts .entry)) (now (roots .entry)) (now (reaches .entry)) (now (versions .entry)) (now (denies .entry)) (now (rolesets .entry)))) call ⌝ }
     ensures line { λ r. ⌜ Wrote (now (out .entry)) (now (out .exit)) at r (reply (engineOf (directoryOf (tablesOf (now (roles .entry)) (now (readers .entry)) (now (forwards .entry))) (now (users .entry)) (now (version .entry))) (sessionsOf (now (opened .entry)) (now (counts .entry)) (now (roots .entry)) (now (reaches .entry)) (now (versions .entry)) (now (denies .entry)) (now (rolesets .entry)))) call) ⌝ }
@@ -73,7 +66,7 @@ fn answer_call(
             flow,
             database,
         );
-        return write::write_number(glyphs, n, out, at);
+        return encoding::write_number(n, out, at);
     }
     let answer = step::step(
         roles,
@@ -90,18 +83,7 @@ fn answer_call(
         rolesets,
         call,
     );
-    let k = write::shown_place(answer);
-    let from = k * Engine::FLOWS;
-    let all = &rolesets[..];
-    write::write_answer(
-        glyphs,
-        answer,
-        versions[k],
-        denies[k],
-        &all[from..from + Engine::FLOWS],
-        out,
-        at,
-    )
+    encoding::write_answer(answer, versions, denies, rolesets, out, at)
 }
 
 // Takes a piece of input line by line, as far as it has whole lines and there is room for their
@@ -126,16 +108,15 @@ pub fn feed(
 ) -> Fed
     ensures { λ r. ⌜ Feeds (now (input .entry)) (now (out .entry)) (now (out .exit)) (engineOf (directoryOf (tablesOf (now (roles .exit)) (now (readers .exit)) (now (forwards .exit))) (now (users .exit)) (now (version .exit))) (sessionsOf (now (opened .exit)) (now (counts .exit)) (now (roots .exit)) (now (reaches .exit)) (now (versions .exit)) (now (denies .exit)) (now (rolesets .exit)))) (fed (length (now (out .entry))) (engineOf (directoryOf (tablesOf (now (roles .entry)) (now (readers .entry)) (now (forwards .entry))) (now (users .entry)) (now (version .entry))) (sessionsOf (now (opened .entry)) (now (counts .entry)) (now (roots .entry)) (now (reaches .entry)) (now (versions .entry)) (now (denies .entry)) (now (rolesets .entry)))) (now (input .entry))) r ⌝ }
 {
-    let high = digits::highs();
-    let low = digits::lows();
-    let glyphs = digits::glyphs();
+    let high = decoding::highs();
+    let low = decoding::lows();
     let mut at = 0usize;
     let mut written = 0usize;
     while at < input.len() {
         if out.len() - written < LONGEST {
             break;
         }
-        let line = next::next(&high, &low, input, at);
+        let line = decoding::next_line(&high, &low, input, at);
         let end = line.end;
         if input.len() <= end {
             break;
@@ -154,7 +135,6 @@ pub fn feed(
             versions,
             denies,
             rolesets,
-            &glyphs,
             call,
             out,
             written,
@@ -167,58 +147,9 @@ pub fn feed(
     }
 }
 
-fn least(a: usize, b: usize) -> usize
-    ensures { λ r. ⌜ r ≡ min a b ⌝ }
-{
-    if a < b { a } else { b }
-}
-
-// Moves what has to be kept of a part of a buffer to its start: all of the part, or the first bytes
-// of a line that has no line feed yet. The answer is how many bytes that is.
-pub fn keep(buffer: &mut [u8], from: usize, to: usize) -> usize
-    ensures { λ r. ⌜ (r ≡ length (keptOf (between (now (buffer .entry)) from to))) × (take r (now (buffer .exit)) ≡ keptOf (between (now (buffer .entry)) from to)) × (length (now (buffer .exit)) ≡ length (now (buffer .entry))) ⌝ }
-{
-    let end = least(to, buffer.len());
-    let start = least(from, end);
-    let n = kept_bytes(&buffer[start..end]);
-    let mut i = 0usize;
-    while i < n {
-        buffer[i] = buffer[start + i];
-        i += 1;
-    }
-    n
-}
-
-// How many bytes have to be kept.
-fn kept_bytes(left: &[u8]) -> usize
-    ensures { λ r. ⌜ (r ≡ length (keptOf (now (left .entry)))) × (r ≤ length (now (left .entry))) ⌝ }
-{
-    if next::find_feed(left, 0) < left.len() {
-        return left.len();
-    }
-    least(left.len(), KEPT)
-}
-
-// The answer to a line that has no line feed, from a place on: its number, where a line has begun.
-pub(crate) fn end_line(len: usize, out: &mut [u8], at: usize) -> Line
-    requires { ⌜ at ≤ length (now out) ⌝ }
-    ensures { λ r. ⌜ (r ≡ endAnswer (now (out .entry)) at (ending len)) × (now (out .exit) ≡ endWritten (now (out .entry)) at (ending len)) ⌝ }
-{
-    if len == 0 {
-        return Line::Written(at);
-    }
-    if out.len() - at < 3 {
-        return Line::NoRoom;
-    }
-    out[at] = 48;
-    out[at + 1] = 49;
-    out[at + 2] = 10;
-    Line::Written(at + 3)
-}
-
 // At the end of input, where this many bytes are left of a line: its answer, at the start of `out`.
 pub fn finish(len: usize, out: &mut [u8]) -> Line
     ensures { λ r. ⌜ (r ≡ endAnswer (now (out .entry)) 0 (ending len)) × (now (out .exit) ≡ endWritten (now (out .entry)) 0 (ending len)) ⌝ }
 {
-    end_line(len, out, 0)
+    encoding::write_end(len, out, 0)
 }

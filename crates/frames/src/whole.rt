@@ -1,7 +1,6 @@
 // A whole input at once, in one buffer.
-use super::next;
 use super::stream;
-use super::write::Line;
+use encoding::Line;
 use engine::Engine;
 use engine::Version;
 ghost use Rattle.frames.specs.Stream.{Ran};
@@ -40,8 +39,8 @@ pub fn run(input: &[u8], out: &mut [u8]) -> Line
         out,
     );
     let from = fed.consumed;
-    if next::find_feed(input, from) < input.len() {
+    if decoding::find_feed(input, from) < input.len() {
         return Line::NoRoom;
     }
-    stream::end_line(input.len() - from, out, fed.written)
+    encoding::write_end(input.len() - from, out, fed.written)
 }

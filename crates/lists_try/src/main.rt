@@ -10,7 +10,8 @@ ghost use Rattle.io.specs.Counts.{Counts};
 // How many bytes of a file are held at a time.
 const PIECE: usize = 1000;
 
-// Room for one answer of any length and not for two such, so that a piece is not taken at once.
+// Room for one answer of any length and not for two such, so that a piece is not taken at once: what is
+// left of it is kept, and more is read behind it.
 const ROOM: usize = 200;
 
 // n, or the length where n is more.
@@ -24,96 +25,6 @@ fn within(n: usize, bytes: &[u8]) -> usize
 fn show(bytes: &[u8], n: usize) {
     let end = within(n, bytes);
     io::write_all(STDOUT_FILENO, &bytes[..end]);
-}
-
-// The place n bytes behind another, or the end.
-fn behind(piece: &[u8], place: usize, n: usize) -> usize {
-    let from = within(place, piece);
-    from + within(n, &piece[from..])
-}
-
-// Feeds what is left of a piece from a place on, writes the answers, and gives the place reached.
-fn feed_some(
-    roles: &mut [u64; Engine::USERS],
-    readers: &mut [u64; Engine::DATABASES],
-    forwards: &mut [u64; Engine::DATABASES],
-    users: &mut [Version; Engine::USERS],
-    version: &mut Version,
-    opened: &mut u64,
-    counts: &mut [usize; Engine::SESSIONS],
-    roots: &mut [usize; Engine::PLACES],
-    reaches: &mut [u64; Engine::PLACES],
-    versions: &mut [Version; Engine::PLACES],
-    denies: &mut [u64; Engine::PLACES],
-    rolesets: &mut [u64; Engine::ROLE_SETS],
-    piece: &[u8],
-    place: usize,
-) -> usize {
-    let mut output = [0u8; ROOM];
-    let from = within(place, piece);
-    let rest = &piece[from..];
-    let fed = frames::feed(
-        roles,
-        readers,
-        forwards,
-        users,
-        version,
-        opened,
-        counts,
-        roots,
-        reaches,
-        versions,
-        denies,
-        rolesets,
-        rest,
-        &mut output,
-    );
-    show(&output, fed.written);
-    behind(piece, from, fed.consumed)
-}
-
-// Feeds a piece as long as there are whole lines in it, and gives the place reached.
-fn feed_all(
-    roles: &mut [u64; Engine::USERS],
-    readers: &mut [u64; Engine::DATABASES],
-    forwards: &mut [u64; Engine::DATABASES],
-    users: &mut [Version; Engine::USERS],
-    version: &mut Version,
-    opened: &mut u64,
-    counts: &mut [usize; Engine::SESSIONS],
-    roots: &mut [usize; Engine::PLACES],
-    reaches: &mut [u64; Engine::PLACES],
-    versions: &mut [Version; Engine::PLACES],
-    denies: &mut [u64; Engine::PLACES],
-    rolesets: &mut [u64; Engine::ROLE_SETS],
-    piece: &[u8],
-) -> usize {
-    let mut taken = 0usize;
-    let mut turns = u64::MAX;
-    while 0 < turns {
-        let next = feed_some(
-            roles,
-            readers,
-            forwards,
-            users,
-            version,
-            opened,
-            counts,
-            roots,
-            reaches,
-            versions,
-            denies,
-            rolesets,
-            piece,
-            taken,
-        );
-        if next <= taken {
-            break;
-        }
-        taken = next;
-        turns -= 1;
-    }
-    taken
 }
 
 // One read.
@@ -131,6 +42,14 @@ fn read_behind(fd: i32, input: &mut [u8], n: usize) -> usize
     let from = within(n, input);
     let end = from + read_some(fd, &mut input[from..]);
     within(end, input)
+}
+
+// Whether nothing was read and no line was taken: the file is at its end.
+fn is_at_end(len: usize, filled: usize, taken: usize) -> bool {
+    if len < filled {
+        return false;
+    }
+    taken == 0
 }
 
 // Writes the answer to a last line that has no line feed, of which this many bytes are left.
@@ -157,14 +76,12 @@ fn run(fd: i32) {
     let mut denies = [0u64; Engine::PLACES];
     let mut rolesets = [0u64; Engine::ROLE_SETS];
     let mut input = [0u8; PIECE];
+    let mut output = [0u8; ROOM];
     let mut len = 0usize;
     let mut turns = u64::MAX;
     while 0 < turns {
         let filled = read_behind(fd, &mut input, len);
-        if filled <= len {
-            break;
-        }
-        let taken = feed_all(
+        let fed = frames::feed(
             &mut roles,
             &mut readers,
             &mut forwards,
@@ -178,8 +95,15 @@ fn run(fd: i32) {
             &mut denies,
             &mut rolesets,
             &input[..filled],
+            &mut output,
         );
+        show(&output, fed.written);
+        let taken = fed.consumed;
+        let is_last = is_at_end(len, filled, taken);
         len = frames::keep(&mut input, taken, filled);
+        if is_last {
+            break;
+        }
         turns -= 1;
     }
     end(len);

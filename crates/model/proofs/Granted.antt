@@ -3,8 +3,8 @@
 use Prim.Native.Nat.{ℕ}
 use lib.Dec.{eqb}
 use Rattle.sets.specs.Sets.{inserted, joined, sizeOf}
+use Rattle.rows.specs.Reach.{reach}
 use Rattle.tables.specs.declared.Tables.{Tables}
-use Rattle.tables.specs.Reach.{reach}
 use Rattle.tables.specs.Tables.{roleCount, databaseCount, assigned, withdrawn, permitted, revoked, forwarded}
 use Rattle.model.specs.declared.Directory.{Directory}
 use Rattle.model.specs.declared.Sessions.{Sessions}

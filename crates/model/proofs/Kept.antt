@@ -13,8 +13,8 @@ use lib.Dec.{leb}
 use lib.ListN.{length, getD, List·getD-eq-default}
 use Rattle.sets.specs.Sets.{has, some, count, meeting}
 use Rattle.sets.proofs.Laws.{and-both, and-all, some-of, some-nowhere, some-cong, count-miss, count-cong, has-setOf, has-empty, has-shared}
+use Rattle.rows.specs.Rows.{there, image}
 use Rattle.tables.specs.declared.Tables.{Tables}
-use Rattle.tables.specs.Rows.{there, image}
 use Rattle.tables.specs.Tables.{userCount, roleCount, databaseCount, holds, parentsOf, readersOf}
 use Rattle.tables.proofs.Meaning.{overlaps-iff, parents-iff}
 use Rattle.model.specs.declared.Engine.{Engine}

@@ -14,9 +14,9 @@ use lib.Pow.{pow-pos}
 use borrow.Author.Tests.{ltb-true, ltb-false, leb-false, lt-ltb, le-ltb, lt-leb, eq-eqb, ne-eqb, eqb-true, not-true, not-false}
 use Rattle.sets.specs.Sets.{has, some, count, joined, shared, inserted, meeting}
 use Rattle.sets.proofs.Laws.{true-or-false, and-both, and-true, or-either, or-left, or-right, some-of, some-at, some-nowhere, two-iff, has-setOf, has-setOf-iff, has-shared-iff, has-joined-iff, meeting-iff, has-inserted, has-empty, is-setOf}
+use Rattle.rows.specs.Rows.{there, image}
+use Rattle.rows.specs.Reach.{reach}
 use Rattle.tables.specs.declared.Tables.{Tables}
-use Rattle.tables.specs.Rows.{there, image}
-use Rattle.tables.specs.Reach.{reach}
 use Rattle.tables.specs.Tables.{userCount, roleCount, databaseCount, heldBy, parentsOf, readersOf, staticallyReads, holds, mayRead}
 use Rattle.tables.specs.Tables.{assigned, permitted, revoked, withReaders}
 use Rattle.tables.proofs.Meaning.{readers-iff, overlaps-iff, parents-iff, held-iff, fresh-empty}

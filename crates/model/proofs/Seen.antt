@@ -11,8 +11,8 @@ use lib.Seq.{getD-set-same, getD-set-other}
 use borrow.Author.Tests.{eqb-true, eqb-false}
 use Rattle.sets.specs.Sets.{has, sizeOf}
 use Rattle.sets.proofs.Laws.{or-neither, has-inserted, count-cong}
+use Rattle.rows.specs.Rows.{there}
 use Rattle.tables.specs.declared.Tables.{Tables}
-use Rattle.tables.specs.Rows.{there}
 use Rattle.tables.specs.Tables.{userCount, roleCount, databaseCount, holds, heldBy}
 use Rattle.tables.specs.Tables.{fresh as emptyTables}
 use Rattle.model.specs.declared.Directory.{Directory}

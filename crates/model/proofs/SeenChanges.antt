@@ -14,12 +14,12 @@ use lib.Seq.{getD-set-same, getD-set-other}
 use borrow.Author.Tests.{ltb-true, ltb-false, lt-ltb, le-ltb, eqb-true, eqb-false, eq-eqb, ne-eqb}
 use Rattle.sets.specs.Sets.{has, some, inserted, joined}
 use Rattle.sets.proofs.Laws.{true-or-false, or-none, or-left, some-at, some-nowhere, has-inserted, has-joined, has-empty, has-high}
+use Rattle.rows.specs.Rows.{there, struck}
+use Rattle.rows.specs.Rows.{entered as rowEntered}
+use Rattle.rows.specs.Reach.{reach}
+use Rattle.rows.proofs.Meaning.{there-entered, there-struck}
 use Rattle.tables.specs.declared.Tables.{Tables}
-use Rattle.tables.specs.Rows.{there, struck}
-use Rattle.tables.specs.Rows.{entered as rowEntered}
-use Rattle.tables.specs.Reach.{reach}
 use Rattle.tables.specs.Tables.{userCount, roleCount, databaseCount, holds, mayRead, forwardsTo, heldBy, assigned, withdrawn, permitted, revoked, forwarded, withRoles, withReaders, withForwards}
-use Rattle.tables.proofs.Meaning.{there-entered, there-struck}
 use Rattle.model.specs.declared.Directory.{Directory}
 use Rattle.model.specs.declared.Sessions.{Sessions}
 use Rattle.model.specs.declared.Engine.{Engine}

@@ -10,8 +10,8 @@ use lib.ListN.{length, getD}
 use borrow.Author.Tests.{ltb-true, ltb-false, leb-false, lt-ltb, eq-eqb, not-false}
 use Rattle.sets.specs.Sets.{has, some, count, joined, meeting}
 use Rattle.sets.proofs.Laws.{or-neither, some-at, some-cong, count-cong, has-setOf, has-inserted, has-joined, has-empty}
-use Rattle.tables.specs.Rows.{there, image}
-use Rattle.tables.specs.Reach.{onward, level, reach}
+use Rattle.rows.specs.Rows.{there, image}
+use Rattle.rows.specs.Reach.{onward, level, reach}
 use Rattle.tables.specs.Tables.{userCount, roleCount, databaseCount, holds, mayRead, forwardsTo, heldBy, staticallyReads}
 use Rattle.model.specs.declared.Engine.{Engine}
 use Rattle.model.specs.declared.calls.Refusal.{Refusal}

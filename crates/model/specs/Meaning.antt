@@ -6,8 +6,8 @@ use mathlib.Core.Bool.{true, false}
 use mathlib.Core.Logic.{_⊎_, _↔_, _≢_}
 use lib.ListN.{length, getD, replicate}
 use Rattle.sets.specs.Sets.{has}
+use Rattle.rows.specs.Reach.{reach}
 use Rattle.tables.specs.declared.Tables.{Tables}
-use Rattle.tables.specs.Reach.{reach}
 use Rattle.tables.specs.Tables.{userCount, roleCount, databaseCount, holds, mayRead, forwardsTo, staticallyReads, assigned, withdrawn, permitted, revoked, forwarded}
 use Rattle.model.specs.declared.Engine.{Engine}
 use Rattle.model.specs.declared.calls.Refusal.{Refusal}

@@ -6,8 +6,8 @@ use mathlib.Core.List.{List}
 use lib.Dec.{leb, ltb, eqb}
 use lib.ListN.{getD, set, replicate}
 use Rattle.sets.specs.Sets.{has, setOf, some, count, shared, meeting}
+use Rattle.rows.specs.Rows.{there}
 use Rattle.tables.specs.declared.Tables.{Tables}
-use Rattle.tables.specs.Rows.{there}
 use Rattle.tables.specs.Tables.{userCount, staticallyReads, readersOf, parentsOf}
 use Rattle.tables.specs.Tables.{fresh as emptyTables}
 use Rattle.model.specs.declared.Directory.{Directory}

@@ -14,8 +14,8 @@ use borrow.Author.Tests.{leb-false, lt-ltb, le-ltb, eq-eqb, ne-eqb}
 use Rattle.sets.specs.Sets.{has, setOf, some, count, joined, shared, sizeOf}
 use Rattle.sets.proofs.Laws.{some-cong, count-cong, setOf-lt, setOf-cong, has-setOf, is-setOf}
 use Rattle.tables.specs.declared.Tables.{Tables}
-use Rattle.tables.specs.Rows.{image}
-use Rattle.tables.specs.Reach.{reach}
+use Rattle.rows.specs.Rows.{image}
+use Rattle.rows.specs.Reach.{reach}
 use Rattle.tables.specs.Tables.{userCount, roleCount, databaseCount, overlaps, parentsOf}
 use Rattle.model.specs.declared.Directory.{Directory}
 use Rattle.model.specs.declared.Sessions.{Sessions}
@@ -39,7 +39,7 @@ use Rattle.model.proofs.Granted.{changed, changedSessions, sessionOpened, accep
 use Rattle.model.proofs.SeenRows.{bounded, holds-seen, permits-seen, reach-seen, length-flows, flow-seen, conflicts-seen, granted-after, granted-answer, after-cases, within-add}
 use Rattle.model.proofs.Seen.{demand1, sized-fresh, sized-after, seen-fresh, seen-after, refused-number}
 use Rattle.model.proofs.Kept.{Kept, kept-fresh, kept-after, number-told}
-use Rattle.protocol.specs.Widths.{setDigits}
+use Rattle.protocol.specs.Widths.{versionDigits, setDigits}
 use Rattle.protocol.specs.Digits.{hex}
 use Rattle.protocol.specs.Lines.{callOf, roleSets, values, lineOf}
 use Rattle.protocol.specs.Run.{split, lastCall, callsOf, shownIn, reply, replies, run}
@@ -269,24 +269,24 @@ system-seen : (e : Engine) → e .directory .version ≡ seen e .system
 unfolding seen
 system-seen e = refl
 
-add-told : (e : Engine) (s root : ℕ) → hex 2 (flowsIn (e .sessions) s) ++ (hex 2 (sizeOf databaseCount (reach databaseCount (e .directory .tables .forwards) root)) ++ hex 4 (e .directory .version))
-    ≡ inDigits 2 (length (seen e .flows s)) ++ (inDigits 2 (count databaseCount (reachOf (seen e) root)) ++ inDigits 4 (seen e .system))
+add-told : (e : Engine) (s root : ℕ) → hex 2 (flowsIn (e .sessions) s) ++ (hex 2 (sizeOf databaseCount (reach databaseCount (e .directory .tables .forwards) root)) ++ hex versionDigits (e .directory .version))
+    ≡ inDigits 2 (length (seen e .flows s)) ++ (inDigits 2 (count databaseCount (reachOf (seen e) root)) ++ inDigits versionDigits (seen e .system))
 unfolding sizeOf
 add-told e s root =
     ap₂ (λ (a b : List ℕ). a ++ b) (hex-digits 2 _ ∙ ap (inDigits 2) (sym (length-flows e s)))
-    (ap₂ (λ (a b : List ℕ). a ++ b) (hex-digits 2 _ ∙ ap (inDigits 2) (count-cong databaseCount _ _ (reach-seen e root))) (hex-digits 4 _ ∙ ap (inDigits 4) (system-seen e)))
+    (ap₂ (λ (a b : List ℕ). a ++ b) (hex-digits 2 _ ∙ ap (inDigits 2) (count-cong databaseCount _ _ (reach-seen e root))) (hex-digits versionDigits _ ∙ ap (inDigits versionDigits) (system-seen e)))
 
 conflicts-told : (e : Engine) (s root : ℕ) → hex setDigits (conflictsIn (e .directory .tables) (e .sessions) s (reach databaseCount (e .directory .tables .forwards) root)) ≡ M (isConflicting (seen e) s (newFlow (seen e) s root 0))
 unfolding newFlow conflictsIn conflicts
 conflicts-told e s root = hex-set _ _ (setOf-lt roleCount _) (conflicts-seen e s root (newFlow (seen e) s root 0) (reach-seen e root))
 
 show-told : (e : Engine) (sets : ℕ → ℕ → ℕ → ℕ → Bool) (s f : ℕ) → Shown (e .sessions) sets → f < flowsIn (e .sessions) s → f < flowCount
-    → hex 4 (constraintAt (e .sessions) s f .version) ++ (hex setDigits (constraintAt (e .sessions) s f .deny) ++ roleSets (suc f) (constraintAt (e .sessions) s f .roles))
-    ≡ inDigits 4 (flowOf (seen e) s f .version) ++ (M (flowOf (seen e) s f .deny) ++ setsOf (suc f) (sets s f))
+    → hex versionDigits (constraintAt (e .sessions) s f .version) ++ (hex setDigits (constraintAt (e .sessions) s f .deny) ++ roleSets (suc f) (constraintAt (e .sessions) s f .roles))
+    ≡ inDigits versionDigits (flowOf (seen e) s f .version) ++ (M (flowOf (seen e) s f .deny) ++ setsOf (suc f) (sets s f))
 unfolding flowSeen constraintAt
 show-told e sets s f h l m =
     rw (flow-seen e s f l)
-    (ap₂ (λ (a b : List ℕ). a ++ b) (hex-digits 4 (getD (e .sessions .versions) (place s f) 0))
+    (ap₂ (λ (a b : List ℕ). a ++ b) (hex-digits versionDigits (getD (e .sessions .versions) (place s f) 0))
     (ap₂ (λ (a b : List ℕ). a ++ b) (hex-set (denyAt (e .sessions) s f) _ (h .deny s f l) (λ r k. bounded roleCount r (has (denyAt (e .sessions) s f) r) k))
     (role-sets-told (suc f) _ (sets s f) (λ g k. kept g (omega (arith, m)) ∙ h .roles s f l g (omega arith)))))
   where
@@ -302,8 +302,8 @@ never e h = let z : _≡_ {A = ℕ} 0 1 = cc in omega arith
 module _ (e : Engine) (sets : ℕ → ℕ → ℕ → ℕ → Bool) (z : Sized e) (k : Kept e) (h : Shown (e .sessions) sets) where
   values-told : (c : Call) → verdict e c ≡ Granted → (returned (verdictOf (accepted e c)) ≡ 0) × (values (accepted e c) (shownIn (e .sessions) (accepted e c)) ≡ told (bookOf e sets) c)
   unfolding returned verdictOf values changed accepted askAnswer shownIn told
-  values-told (Table c) v = (refl, hex-digits 4 _ ∙ ap (inDigits 4) (version-told e (Table c) z k v))
-  values-told (Session s Open) v = (refl, hex-digits 4 _ ∙ ap (inDigits 4) (version-told e (Session s Open) z k v))
+  values-told (Table c) v = (refl, hex-digits versionDigits _ ∙ ap (inDigits versionDigits) (version-told e (Table c) z k v))
+  values-told (Session s Open) v = (refl, hex-digits versionDigits _ ∙ ap (inDigits versionDigits) (version-told e (Session s Open) z k v))
   values-told (Session s (Conflicting d)) v = (refl, conflicts-told e s d)
   values-told (Session s (Add d m)) v = (refl, add-told e s d)
   values-told (Session s (Show f)) v = (refl, show-told e sets s f h (shown-there e s f v) (show-within e s f v .1))

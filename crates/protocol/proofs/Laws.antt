@@ -29,7 +29,7 @@ use Rattle.model.specs.Demands.{seen, Demand1}
 use Rattle.model.proofs.Chains.{not-met}
 use Rattle.model.proofs.SeenRows.{length-flows}
 use Rattle.model.proofs.Seen.{demand1}
-use Rattle.protocol.specs.Widths.{setDigits, kept, longest}
+use Rattle.protocol.specs.Widths.{versionDigits, setDigits, kept, longest}
 use Rattle.protocol.specs.Digits.{allDigits, number, hex}
 use Rattle.protocol.specs.Lines.{restDigits, called, frame, callOf, lineFeed, roleSets, values, shownSets, lineOf}
 use Rattle.protocol.specs.Run.{Split, withByte, split, lastCall, callsOf, shownIn, reply, replies, run, Fed, wrote, fedFrom, fed, feedAt, keptOf, finish}
@@ -347,7 +347,7 @@ unfolding hex
 hex-length zero v = refl
 hex-length (suc n) v = rw (length-append, hex-length n (v / 16)) (omega arith)
 
-pub roleSets-length : (n : ℕ) (sets : List ℕ) → length (roleSets n sets) ≡ 16 * n
+pub roleSets-length : (n : ℕ) (sets : List ℕ) → length (roleSets n sets) ≡ setDigits * n
 unfolding roleSets
 roleSets-length zero sets = refl
 roleSets-length (suc n) sets = rw (length-append, roleSets-length n sets, hex-length) (omega arith)
@@ -400,7 +400,7 @@ few-sets Granted p = omega arith
 few-sets (Answer·Constraint s f) p = p .1
 few-sets (Refused why) p = omega arith
 
-pub values-length : (a : Answer) (c : Constraint) → shownSets a ≤ flowCount → length (values a c) ≤ 148
+pub values-length : (a : Answer) (c : Constraint) → shownSets a ≤ flowCount → length (values a c) ≤ versionDigits + setDigits * (1 + flowCount)
 unfolding values shownSets
 values-length (Version v) c l = simp hex-length (omega arith)
 values-length (Roles m) c l = simp hex-length (omega arith)

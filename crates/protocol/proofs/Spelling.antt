@@ -19,7 +19,7 @@ use Rattle.model.specs.declared.calls.Ask.the-variants.{Open, Conflicting, Add,
 use Rattle.model.specs.declared.calls.Call.{Call}
 use Rattle.model.specs.declared.calls.Call.the-variants.{Table, Session, Read, Unreadable}
 use Rattle.protocol.specs.Digits.{digit, allDigits, numberFrom, number, glyph, hex}
-use Rattle.protocol.specs.Lines.{field, restDigits, called, frame, callOf}
+use Rattle.protocol.specs.Lines.{field, restDigits, calledBy, called, frame, callOf}
 use Rattle.protocol.proofs.Laws.{hex-length}
 use Rattle.protocol.specs.Specification.{digits, inDigits, bits, M, spelled, HasFrame, Says}
 use Rattle.protocol.specs.Specification.{frame as says-frame, malformed as says-malformed}
@@ -207,7 +207,7 @@ read-quad k a b c d C l m n o p f =
     rest = hex 2 a ++ r₁
 
 read-add : (s d m : ℕ) → s < 256 → d < 256 → m < 2 ^ 64 → callOf (inDigits 2 8 ++ (inDigits 2 s ++ (inDigits 2 d ++ M (has m)))) ≡ Session s (Add d m)
-unfolding M frame restDigits called
+unfolding M frame restDigits called calledBy
 read-add s d m l n o =
     simp (digits-hex, bits-set 64 (has m), members 64 m o)
     (read-kind 8 rest (omega arith) (all-append (hex 2 s) r₁ (hex-all 2 s) (all-append (hex 2 d) (hex 16 m) (hex-all 2 d) (hex-all 16 m)))
@@ -229,7 +229,7 @@ read-add s d m l n o =
     rest = hex 2 s ++ r₁
 
 pub read-spelled : (c : Call) → HasFrame c → callOf (spelled c) ≡ c
-unfolding spelled frame restDigits called
+unfolding spelled frame restDigits called calledBy
 read-spelled (Table (Assign u r)) h = read-pair 1 u r (λ x y. Table (Assign x y)) (omega arith) (h .0) (h .1) (λ rest e. rw e)
 read-spelled (Table (Withdraw u r)) h = read-pair 2 u r (λ x y. Table (Withdraw x y)) (omega arith) (h .0) (h .1) (λ rest e. rw e)
 read-spelled (Table (Permit r d)) h = read-pair 3 r d (λ x y. Table (Permit x y)) (omega arith) (h .0) (h .1) (λ rest e. rw e)
@@ -353,7 +353,7 @@ module _ (line : List ℕ) (h : allDigits line ≡ true) (long : eqb (length (dr
       )
 
   framed-called : Framed line (called (number (take 2 line)) (drop 2 line))
-  unfolding called spelled M restDigits
+  unfolding called calledBy spelled M restDigits
   framed-called =
       pick (Framed line) _ _ _ (λ t. inr (pair-framed 1 t refl))
       (pick (Framed line) _ _ _ (λ t. inr (pair-framed 2 t refl))

@@ -35,31 +35,35 @@ restDigits kind =
     (cond (eqb kind 0x09) (fields 4)
     (cond (leb 0x01 kind && leb kind 0x0a) (fields 2) 0)))
 
--- the call of this kind whose fields are the rest of the line
-unfoldable pub called : ℕ → List ℕ → Call
-called kind rest =
+-- the call of this kind with these fields, and with this role set where it has one
+unfoldable pub calledBy : ℕ → (ℕ → ℕ) → ℕ → Call
+calledBy kind field set =
     -- 01 uu rr
-    cond (eqb kind 0x01) (Table (Assign (field rest 0) (field rest 1)))
+    cond (eqb kind 0x01) (Table (Assign (field 0) (field 1)))
     -- 02 uu rr
-    (cond (eqb kind 0x02) (Table (Withdraw (field rest 0) (field rest 1)))
+    (cond (eqb kind 0x02) (Table (Withdraw (field 0) (field 1)))
     -- 03 rr dd
-    (cond (eqb kind 0x03) (Table (Permit (field rest 0) (field rest 1)))
+    (cond (eqb kind 0x03) (Table (Permit (field 0) (field 1)))
     -- 04 rr dd
-    (cond (eqb kind 0x04) (Table (Revoke (field rest 0) (field rest 1)))
+    (cond (eqb kind 0x04) (Table (Revoke (field 0) (field 1)))
     -- 05 dd ee
-    (cond (eqb kind 0x05) (Table (Forward (field rest 0) (field rest 1)))
+    (cond (eqb kind 0x05) (Table (Forward (field 0) (field 1)))
     -- 06 ss
-    (cond (eqb kind 0x06) (Session (field rest 0) Open)
+    (cond (eqb kind 0x06) (Session (field 0) Open)
     -- 07 ss dd
-    (cond (eqb kind 0x07) (Session (field rest 0) (Conflicting (field rest 1)))
+    (cond (eqb kind 0x07) (Session (field 0) (Conflicting (field 1)))
     -- 08 ss dd M
-    (cond (eqb kind 0x08) (Session (field rest 0) (Add (field rest 1) (number (drop (fields 2) rest))))
+    (cond (eqb kind 0x08) (Session (field 0) (Add (field 1) set))
     -- 09 uu ss ff dd
-    (cond (eqb kind 0x09) (Read (field rest 0) (field rest 1) (field rest 2) (field rest 3))
+    (cond (eqb kind 0x09) (Read (field 0) (field 1) (field 2) (field 3))
     -- 0a ss ff
-    (cond (eqb kind 0x0a) (Session (field rest 0) (Show (field rest 1)))
+    (cond (eqb kind 0x0a) (Session (field 0) (Show (field 1)))
     -- "unknown kind"
     Unreadable)))))))))
+
+-- the call of this kind whose fields are the rest of the line
+unfoldable pub called : ℕ → List ℕ → Call
+called kind rest = calledBy kind (field rest) (number (drop (fields 2) rest))
 
 -- what a frame of this kind says: where the rest has as many digits as its fields
 unfoldable pub frame : ℕ → List ℕ → Call

@@ -15,7 +15,7 @@ use lib.Seq.{getD-set-same, getD-set-other}
 use borrow.Author.Tests.{le-leb, lt-leb, eq-eqb, ne-eqb}
 use Rattle.sets.specs.Sets.{has, setOf, some, count, joined, lacking}
 use Rattle.sets.proofs.Laws.{or-none, and-all, some-none, some-suc, count-more, counted, setOf-lt, is-setOf, has-setOf, has-empty, has-joined, has-lacking}
-use Rattle.tables.specs.Rows.{there}
+use Rattle.rows.specs.Rows.{there}
 
 -- ---- a count that stops at two
 

@@ -6,7 +6,7 @@ use mathlib.Core.List.{List}
 use lib.Dec.{leb}
 use lib.ListN.{getD, replicate}
 use Rattle.sets.specs.Sets.{setOf, some, count, shared, meeting}
-use Rattle.tables.specs.Rows.{there}
+use Rattle.rows.specs.Rows.{there}
 use Rattle.tables.specs.Tables.{userCount, roleCount, databaseCount, readersOf}
 use Rattle.model.specs.Limits.{flowCount}
 use Rattle.model.specs.State.{filled, reachWith}

@@ -2,40 +2,20 @@
 -- Assumes nothing.
 use Prim.Native.Nat.{ℕ, _≤_, _<_}
 use mathlib.Core.Path.{_≡_, refl}
-use mathlib.Core.Bool.{Bool, true, false, not, _&&_, _||_}
-use mathlib.Core.List.{List}
+use mathlib.Core.Bool.{Bool, true, false, _&&_}
 use native.Mathlib.Decide.{decLt}
 use native.Mathlib.Omega.{arith}
-use lib.Dec.{eqb}
-use lib.ListN.{getD, set, length, replicate, getD-replicate, length-replicate, List·getD-eq-default}
-use lib.Seq.{getD-set-same, getD-set-other}
-use borrow.Author.Tests.{eqb-true, eqb-false}
-use Rattle.sets.specs.Sets.{has, some, inserted, removed, sizeOf}
-use Rattle.sets.proofs.Laws.{and-both, and-true, or-none, and-all, some-iff, some-of, some-at, some-cong, count-some, count-le, has-empty, has-inserted, has-removed}
-use Rattle.tables.specs.Rows.{there, entered, struck}
-use Rattle.tables.specs.Reach.{reach, start}
+use lib.ListN.{getD, length, replicate, getD-replicate, length-replicate, List·getD-eq-default}
+use Rattle.sets.specs.Sets.{has, some}
+use Rattle.sets.proofs.Laws.{and-both, and-true, some-iff, some-of, some-at, some-cong, has-empty}
+use Rattle.rows.specs.Rows.{there}
+use Rattle.rows.proofs.Paths.{has-image}
+use Rattle.rows.proofs.Meaning.{there-entered, there-struck}
 use Rattle.tables.specs.declared.Tables.{Tables}
 use Rattle.tables.specs.Tables.{userCount, roleCount, databaseCount, fresh}
 use Rattle.tables.specs.Tables.{withRoles, withReaders, withForwards, assigned, withdrawn, permitted, revoked, forwarded, unforwarded}
 use Rattle.tables.specs.Tables.{heldBy, overlaps, parentsOf, staticallyReads}
-use Rattle.tables.specs.Meaning.{LevelMeans, ReachMeans, ReachSize, ReadersMean, ReadsMean, HeldMeans, OverlapsMean, OverlapsItself, ParentsMean, UnheldHasNone}
-use Rattle.tables.specs.Meaning.{EnteredMeans, StruckMeans, ChangesMean, FreshEmpty}
-use Rattle.tables.proofs.Paths.{level-paths, last-paths, has-image}
-
--- ---- the reach
-
-pub level-iff : LevelMeans
-level-iff n edge root k d = level-paths n edge root k d
-
-pub reach-iff : ReachMeans
-unfolding reach
-reach-iff n forwards root d = last-paths n (there forwards) root d
-
-pub reach-size : ReachSize
-unfolding sizeOf
-reach-size n forwards root l =
-    let p : ℕ → Bool = has (reach n forwards root) in
-    (count-some n p root l (reach-iff n forwards root root .1 (0, start l)), count-le n p)
+use Rattle.tables.specs.Meaning.{ReadersMean, ReadsMean, HeldMeans, OverlapsMean, OverlapsItself, ParentsMean, UnheldHasNone, ChangesMean, FreshEmpty}
 
 -- ---- who may read
 
@@ -92,25 +72,6 @@ pub no-parent : UnheldHasNone
 no-parent m roles o r h = let u = overlaps-iff m roles o r .0 h in held-iff m roles o .1 (u .0, u .1, u .2)
 
 -- ---- the changes
-
--- a table with row a changed: what is in row a, and in another row
-there-set : (rows : List ℕ) (a x c d : ℕ) (after : Bool → Bool) → a < length rows → (c ≡ a → has x d ≡ after true) → there rows c d ≡ after false → there (set rows a x) c d ≡ after (eqb c a)
-unfolding there
-there-set rows a x c d after l same other = go (eqb c a) refl
-  where
-    go : (b : Bool) → eqb c a ≡ b → has (getD (set rows a x) c 0) d ≡ after b
-    go true e = rw (eqb-true c a e, getD-set-same rows a x 0 l) (same (eqb-true c a e))
-    go false e = rw (getD-set-other rows a c x 0 (eqb-false c a e)) other
-
-pub there-entered : EnteredMeans
-unfolding there entered
-there-entered n rows a b c d l k =
-    there-set rows a (inserted n (getD rows a 0) b) c d (λ x. there rows c d || (x && eqb d b)) l (λ e. rw e (has-inserted n (getD rows a 0) b d k)) (or-none (there rows c d))
-
-pub there-struck : StruckMeans
-unfolding there struck
-there-struck n rows a b c d l k =
-    there-set rows a (removed n (getD rows a 0) b) c d (λ x. there rows c d && not (x && eqb d b)) l (λ e. rw e (has-removed n (getD rows a 0) b d k)) (and-all (there rows c d))
 
 pub changes-mean : (t : Tables) → ChangesMean t
 unfolding assigned withdrawn permitted revoked forwarded unforwarded withRoles withReaders withForwards

@@ -5,7 +5,7 @@ use mathlib.Core.Bool.{Bool, _&&_}
 use mathlib.Core.List.{List}
 use lib.ListN.{replicate}
 use Rattle.sets.specs.Sets.{has, some}
-use Rattle.tables.specs.Rows.{there, entered, struck, image}
+use Rattle.rows.specs.Rows.{there, entered, struck, image}
 use Rattle.tables.specs.declared.Tables.{Tables}
 
 -- "Users 0–255, roles 0–63, databases 0–63"

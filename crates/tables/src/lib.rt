@@ -6,7 +6,7 @@ pub mod lent;
 
 ghost use mathlib.Core.Path.{_≡_};
 ghost use Rattle.sets.specs.Sets.{sizeOf};
-ghost use Rattle.tables.specs.Reach.{reach};
+ghost use Rattle.rows.specs.Reach.{reach};
 ghost use Rattle.tables.specs.Tables.{userCount, roleCount, databaseCount};
 ghost use Rattle.tables.specs.Tables.{fresh, holds, mayRead, forwardsTo};
 ghost use Rattle.tables.specs.Tables.{assigned, withdrawn, permitted, revoked, forwarded, unforwarded};

@@ -2,20 +2,20 @@
 -- Assumes nothing.
 use mathlib.Core.Path.{_≡_, refl}
 use Rattle.sets.specs.Sets.{has, setOf, some, count, inserted, removed, joined, shared, lacking, meeting, sizeOf}
-use Rattle.tables.specs.Rows.{there, entered, struck, image}
-use Rattle.tables.specs.Reach.{onward, level, reach}
+use Rattle.rows.specs.Rows.{there, entered, struck, image}
+use Rattle.rows.specs.Reach.{onward, level, reach}
 use Rattle.tables.specs.Tables.{withRoles, withReaders, withForwards, assigned, withdrawn, permitted, revoked, forwarded, heldBy, overlaps, parentsOf, staticallyReads}
 use Rattle.tables.specs.Tables.{fresh as emptyTables}
 use Rattle.model.specs.State.{filled, place, setPlace, anyFlow, reachWith, conflicts, outside, denyBefore, roleSet, linkable, rolesetAt, given, newVersion, fresh}
 use Rattle.model.specs.Calls.{numberOf, returned, verdictOf, toHolders, spent, assign, withdraw, permit, revoke, forward, openSession, conflictsIn, conflicting, withFlow, add, show, links, read, answerOf, change, ask, step, answer, after, constraintAt}
 use Rattle.protocol.specs.Digits.{digit, allDigits, numberFrom, number, glyph, hex}
-use Rattle.protocol.specs.Lines.{field, restDigits, called, frame, callOf, roleSets, values, lineOf}
+use Rattle.protocol.specs.Lines.{field, restDigits, calledBy, called, frame, callOf, roleSets, values, lineOf}
 use Rattle.protocol.specs.Run.{withByte, split, lastCall, callsOf, shownIn, reply, replies, run}
 use Rattle.worked.specs.Worked.{worked, inputOf, outputOf, Settled}
 use Rattle.protocol.proofs.Exact.{exact}
 
 by-computing : run (inputOf worked) ≡ outputOf worked
-unfolding has setOf some count inserted removed joined shared lacking meeting sizeOf there entered struck image onward level reach withRoles withReaders withForwards assigned withdrawn permitted revoked forwarded heldBy overlaps parentsOf staticallyReads emptyTables filled place setPlace anyFlow reachWith conflicts outside denyBefore roleSet linkable rolesetAt given newVersion fresh numberOf returned verdictOf toHolders spent assign withdraw permit revoke forward openSession conflictsIn conflicting withFlow add show links read answerOf change ask step answer after constraintAt digit allDigits numberFrom number glyph hex field restDigits called frame callOf roleSets values lineOf withByte split lastCall callsOf shownIn reply replies run worked inputOf outputOf
+unfolding has setOf some count inserted removed joined shared lacking meeting sizeOf there entered struck image onward level reach withRoles withReaders withForwards assigned withdrawn permitted revoked forwarded heldBy overlaps parentsOf staticallyReads emptyTables filled place setPlace anyFlow reachWith conflicts outside denyBefore roleSet linkable rolesetAt given newVersion fresh numberOf returned verdictOf toHolders spent assign withdraw permit revoke forward openSession conflictsIn conflicting withFlow add show links read answerOf change ask step answer after constraintAt digit allDigits numberFrom number glyph hex field restDigits calledBy called frame callOf roleSets values lineOf withByte split lastCall callsOf shownIn reply replies run worked inputOf outputOf
 by-computing = refl
 
 pub settled : Settled

@@ -8,8 +8,8 @@ use native.Mathlib.Omega.{arith}
 use borrow.Author.Needs.{needs}
 use Rattle.sets.specs.Sets.{some}
 use Rattle.sets.proofs.Laws.{or-none, some-none, some-suc, some-at}
-use Rattle.tables.specs.Rows.{there}
-use Rattle.tables.specs.Tables.{heldBy}
+use Rattle.rows.specs.Rows.{there}
+use Rattle.tables.specs.Tables.{heldBy, userCount}
 use Rattle.model.specs.State.{given}
 use Rattle.model.proofs.Laws.{given-start, given-more, given-same}
 use Rattle.directory.proofs.renew.Statement.{statement}
@@ -23,10 +23,10 @@ passed : (p : ℕ → Bool) (u : ℕ) (held : Bool) → held ≡ some u p → p 
 passed p u held e h = rw (add-one u, some-suc u p, h, e) (or-none (some u p))
 
 abbrev Inv-loop : tie.InvT-loop
-Inv-loop versions₀ roles r v held₀ u₀ versions held u = (u ≤ 256) × (held ≡ some u (λ w. there roles w r)) × (versions ≡ given (λ w. there roles w r) v u versions₀)
+Inv-loop versions₀ roles r v held₀ u₀ versions held u = (u ≤ userCount) × (held ≡ some u (λ w. there roles w r)) × (versions ≡ given (λ w. there roles w r) v u versions₀)
 
 abbrev μ-loop : tie.MeasureT-loop
-μ-loop versions₀ roles r v held₀ u₀ versions held u = 256 - u
+μ-loop versions₀ roles r v held₀ u₀ versions held u = userCount - u
 
 loop-again : tie.Need-loop-again Inv-loop μ-loop
 loop-again c =
@@ -43,7 +43,7 @@ returns : tie.Need-returns Inv-loop μ-loop
 unfolding heldBy
 returns c =
     let at-loop = c .before in
-    let e : at-loop .loop .u ≡ 256 = omega arith in
+    let e : at-loop .loop .u ≡ userCount = omega arith in
     (rw e at (at-loop .loop .inv .1), rw e at (at-loop .loop .inv .2))
 
 pub renew-spec : {M : Type 1} → statement M

@@ -5,7 +5,8 @@ use mathlib.Core.List.{List}
 use borrow.Author.Needs.{needs}
 use borrow.Author.Tests.{eq-eqb, ne-eqb}
 use Rattle.sets.proofs.Laws.{and-all}
-use Rattle.tables.specs.Tables.{heldBy}
+use Rattle.tables.specs.Tables.{heldBy, userCount}
+use Rattle.model.specs.Limits.{lastVersion}
 use Rattle.model.specs.State.{tablesOf, directoryOf}
 use Rattle.model.specs.Calls.{spent}
 use Rattle.directory.proofs.spent.Statement.{statement}
@@ -13,17 +14,17 @@ use Rattle.directory.proofs.spent.Tie as tie
 
 module _ (roles readers forwards versions : List ℕ) (version r : ℕ) where
   -- there is a version left
-  some-left : (version ≡ 65535 → ⊥) → false ≡ spent (directoryOf (tablesOf roles readers forwards) versions version) r
+  some-left : (version ≡ lastVersion → ⊥) → false ≡ spent (directoryOf (tablesOf roles readers forwards) versions version) r
   unfolding spent
-  some-left h = rw (ne-eqb version 65535 h) (go (heldBy 256 roles r))
+  some-left h = rw (ne-eqb version lastVersion h) (go (heldBy userCount roles r))
     where
       go : (a : Bool) → false ≡ (a && false)
       go true = refl
       go false = refl
 
-  none-left : (held : Bool) → version ≡ 65535 → held ≡ heldBy 256 roles r → held ≡ spent (directoryOf (tablesOf roles readers forwards) versions version) r
+  none-left : (held : Bool) → version ≡ lastVersion → held ≡ heldBy userCount roles r → held ≡ spent (directoryOf (tablesOf roles readers forwards) versions version) r
   unfolding spent
-  none-left held h e = rw (eq-eqb version 65535 h) (e ∙ and-all (heldBy 256 roles r))
+  none-left held h e = rw (eq-eqb version lastVersion h) (e ∙ and-all (heldBy userCount roles r))
 
 returns : tie.Need-returns
 returns c readers forwards versions = some-left _ readers forwards versions _ _ (c .if1 .taken)

@@ -8,8 +8,9 @@ use native.Mathlib.Omega.{arith}
 use borrow.Author.Needs.{needs}
 use borrow.Author.Tests.{eq-eqb}
 use Rattle.sets.proofs.Laws.{true-or-false, and-all, some-at}
-use Rattle.tables.specs.Rows.{there}
-use Rattle.tables.specs.Tables.{heldBy}
+use Rattle.rows.specs.Rows.{there}
+use Rattle.tables.specs.Tables.{heldBy, userCount}
+use Rattle.model.specs.Limits.{lastVersion}
 use Rattle.model.specs.State.{tablesOf, directoryOf, given, newVersion}
 use Rattle.model.specs.Calls.{spent, toHolders}
 use Rattle.model.proofs.Laws.{given-none}
@@ -17,24 +18,24 @@ use Rattle.directory.proofs.to_holders.Statement.{statement}
 use Rattle.directory.proofs.to_holders.Tie as tie
 
 module _ (roles readers forwards versions : List ℕ) (version r : ℕ) where
-  given-to : (versions′ : List ℕ) (held : Bool) → held ≡ heldBy 256 roles r → versions′ ≡ given (λ u. there roles u r) (version + 1) 256 versions → held ≡ true
+  given-to : (versions′ : List ℕ) (held : Bool) → held ≡ heldBy userCount roles r → versions′ ≡ given (λ u. there roles u r) (version + 1) userCount versions → held ≡ true
       → directoryOf (tablesOf roles readers forwards) versions′ (version + 1) ≡ toHolders (directoryOf (tablesOf roles readers forwards) versions version) r
   unfolding toHolders newVersion
   given-to versions′ held e g h = rw (sym e ∙ h, g)
 
-  given-nobody : (versions′ : List ℕ) (held : Bool) → held ≡ heldBy 256 roles r → versions′ ≡ given (λ u. there roles u r) (version + 1) 256 versions → held ≡ false
+  given-nobody : (versions′ : List ℕ) (held : Bool) → held ≡ heldBy userCount roles r → versions′ ≡ given (λ u. there roles u r) (version + 1) userCount versions → held ≡ false
       → directoryOf (tablesOf roles readers forwards) versions′ version ≡ toHolders (directoryOf (tablesOf roles readers forwards) versions version) r
   unfolding toHolders heldBy
   given-nobody versions′ held e g h =
       let none = sym e ∙ h in
-      let same = given-none (λ u. there roles u r) (version + 1) 256 versions (λ u l. ⊎-elim (λ t. absurd (true≢false (sym (some-at 256 (λ w. there roles w r) u l t) ∙ none))) (λ t. t) (true-or-false (there roles u r))) in
+      let same = given-none (λ u. there roles u r) (version + 1) userCount versions (λ u l. ⊎-elim (λ t. absurd (true≢false (sym (some-at userCount (λ w. there roles w r) u l t) ∙ none))) (λ t. t) (true-or-false (there roles u r))) in
       rw (none, g, same)
 
-  last : version ≡ 65535 → spent (directoryOf (tablesOf roles readers forwards) versions version) r ≡ false
+  last : version ≡ lastVersion → spent (directoryOf (tablesOf roles readers forwards) versions version) r ≡ false
       → directoryOf (tablesOf roles readers forwards) versions version ≡ toHolders (directoryOf (tablesOf roles readers forwards) versions version) r
   unfolding spent toHolders
   last e h =
-      let nobody : heldBy 256 roles r ≡ false = and-all (heldBy 256 roles r) ∙ (rw (eq-eqb version 65535 e) at h) in
+      let nobody : heldBy userCount roles r ≡ false = and-all (heldBy userCount roles r) ∙ (rw (eq-eqb version lastVersion e) at h) in
       rw nobody
 
 returns : tie.Need-returns
@@ -50,7 +51,7 @@ returns-2 c readers forwards =
 returns-3 : tie.Need-returns-3
 returns-3 c readers forwards =
     let start = c .before .before in
-    let e : start .args .version .now ≡ 65535 = omega arith in
+    let e : start .args .version .now ≡ lastVersion = omega arith in
     last _ readers forwards _ _ _ e (start .pre readers forwards)
 
 pub to-holders-spec : {M : Type 1} → statement M

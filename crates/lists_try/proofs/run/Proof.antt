@@ -1,4 +1,4 @@
--- `lists_try::run` is safe and ends. The measure is the number of turns that are left; from turn to turn the buffer keeps its length.
+-- `lists_try::run` is safe and ends. The measure is the number of turns that are left; from turn to turn both buffers keep their length.
 -- Assumes nothing.
 use mathlib.Core.Path.{_≡_}
 use lib.ListN.{length}
@@ -8,10 +8,12 @@ use Rattle.lists_try.proofs.run.Statement.{statement}
 use Rattle.lists_try.proofs.run.Tie as tie
 
 abbrev Inv-loop : tie.InvT-loop
-Inv-loop fd roles₀ readers₀ forwards₀ users₀ version₀ opened₀ counts₀ roots₀ reaches₀ versions₀ denies₀ rolesets₀ input₀ len₀ turns₀ roles readers forwards users version opened counts roots reaches versions denies rolesets input len turns = 1000 ≡ length input
+Inv-loop fd roles₀ readers₀ forwards₀ users₀ version₀ opened₀ counts₀ roots₀ reaches₀ versions₀ denies₀ rolesets₀ input₀ output₀ len₀ turns₀ roles readers forwards users version opened counts roots reaches versions denies rolesets input output len turns =
+    (1000 ≡ length input) × (200 ≡ length output)
 
 abbrev μ-loop : tie.MeasureT-loop
-μ-loop fd roles₀ readers₀ forwards₀ users₀ version₀ opened₀ counts₀ roots₀ reaches₀ versions₀ denies₀ rolesets₀ input₀ len₀ turns₀ roles readers forwards users version opened counts roots reaches versions denies rolesets input len turns = turns
+μ-loop fd roles₀ readers₀ forwards₀ users₀ version₀ opened₀ counts₀ roots₀ reaches₀ versions₀ denies₀ rolesets₀ input₀ output₀ len₀ turns₀ roles readers forwards users version opened counts roots reaches versions denies rolesets input output len turns =
+    turns
 
 loop-holds : tie.Need-loop-holds Inv-loop μ-loop
 loop-holds c = search needs
@@ -25,11 +27,23 @@ read-behind-requires c κs = search needs
 array-share-prefix-input : tie.Need-array-share-prefix-input Inv-loop μ-loop
 array-share-prefix-input c = search needs
 
-slice-aggregate-feed-all : tie.Need-slice-aggregate-feed-all Inv-loop μ-loop
-slice-aggregate-feed-all c = search needs
+slice-aggregate-feed : tie.Need-slice-aggregate-feed Inv-loop μ-loop
+slice-aggregate-feed c = search needs
 
-feed-all-requires : tie.Need-feed-all-requires Inv-loop μ-loop
-feed-all-requires c κs = search needs
+slice-aggregate-feed-2 : tie.Need-slice-aggregate-feed-2 Inv-loop μ-loop
+slice-aggregate-feed-2 c = search needs
+
+feed-requires : tie.Need-feed-requires Inv-loop μ-loop
+feed-requires c κs = search needs
+
+slice-aggregate-show : tie.Need-slice-aggregate-show Inv-loop μ-loop
+slice-aggregate-show c = search needs
+
+show-requires : tie.Need-show-requires Inv-loop μ-loop
+show-requires c κs = search needs
+
+is-at-end-requires : tie.Need-is-at-end-requires Inv-loop μ-loop
+is-at-end-requires c κs = search needs
 
 slice-aggregate-keep : tie.Need-slice-aggregate-keep Inv-loop μ-loop
 slice-aggregate-keep c = search needs
@@ -39,12 +53,12 @@ keep-requires c κs = search needs
 
 sub-turns : tie.Need-sub-turns Inv-loop μ-loop
 sub-turns c =
-    let h = c .before .before .before .before .before .before .before .before .before .before .before .before .before .before .before .before .before .before .before .before .before .loop-test .taken in
+    let h = c .before .before .before .before .before .before .before .before .before .before .before .before .before .before .before .before .before .before .before .before .before .before .before .before .before .before .loop-test .taken in
     omega arith
 
 loop-less : tie.Need-loop-less Inv-loop μ-loop
 loop-less c =
-    let h = c .before .before .before .before .before .before .before .before .before .before .before .before .before .before .before .before .before .before .before .before .before .loop-test .taken in
+    let h = c .before .before .before .before .before .before .before .before .before .before .before .before .before .before .before .before .before .before .before .before .before .before .before .before .before .before .loop-test .taken in
     omega arith
 
 loop-again : tie.Need-loop-again Inv-loop μ-loop
@@ -66,8 +80,12 @@ run-spec =
     slice-aggregate-read-behind
     read-behind-requires
     array-share-prefix-input
-    slice-aggregate-feed-all
-    feed-all-requires
+    slice-aggregate-feed
+    slice-aggregate-feed-2
+    feed-requires
+    slice-aggregate-show
+    show-requires
+    is-at-end-requires
     slice-aggregate-keep
     keep-requires
     sub-turns

@@ -7,15 +7,17 @@ use lib.ListN.{getD}
 use borrow.Author.Needs.{needs}
 use Rattle.sets.specs.Sets.{count, meeting}
 use Rattle.sets.proofs.Laws.{count-none, counted, uncounted}
+use Rattle.tables.specs.Tables.{roleCount}
+use Rattle.model.specs.Limits.{flowCount}
 use Rattle.model.specs.State.{linkable}
 use Rattle.reading.proofs.links.Statement.{statement}
 use Rattle.reading.proofs.links.Tie as tie
 
 abbrev Inv-loop : tie.InvT-loop
-Inv-loop rolesets deny held at met₀ g₀ met g = (g ≤ 8) × (met ≤ g) × (count g (λ f. meeting 64 held (getD rolesets (at * 8 + f) 0)) ≡ met)
+Inv-loop rolesets deny held at met₀ g₀ met g = (g ≤ flowCount) × (met ≤ g) × (count g (λ f. meeting roleCount held (getD rolesets (at * flowCount + f) 0)) ≡ met)
 
 abbrev μ-loop : tie.MeasureT-loop
-μ-loop rolesets deny held at met₀ g₀ met g = 8 - g
+μ-loop rolesets deny held at met₀ g₀ met g = flowCount - g
 
 loop-again : tie.Need-loop-again Inv-loop μ-loop
 loop-again c =
@@ -29,7 +31,7 @@ returns : tie.Need-returns Inv-loop μ-loop
 unfolding linkable
 returns c =
     let at-loop = c .before .before in
-    let e : at-loop .loop .g ≡ 8 = omega arith in
+    let e : at-loop .loop .g ≡ flowCount = omega arith in
     let h = rw e at (at-loop .loop .inv .2) in
     rw (h, c .meets2 .ensures)
 

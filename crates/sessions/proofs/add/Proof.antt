@@ -2,6 +2,7 @@ use mathlib.Core.Path.{sym, ap, _∙_}
 use mathlib.Core.Bool.{not}
 use borrow.Author.Needs.{needs}
 use borrow.Author.Tests.{le-leb, lt-leb}
+use Rattle.tables.specs.Tables.{roleCount}
 use Rattle.model.specs.State.{outside}
 use Rattle.model.specs.Calls.{conflictsIn, add}
 use Rattle.sessions.proofs.Additions.{conflicts-found, accepted}
@@ -57,7 +58,7 @@ returns-5 c users =
       lt-leb _ _ (start .fits .chosen .fits),
       ap not (sym (at-contains .contains .ensures)) ∙ test3 .if3 .left,
       lt-leb _ _ (test4 .if4 .left),
-      sym (ap (outside 64 _) (conflicts-found _ _ _ _ _ _ _ _ _ (at-reach .reach .ensures) (at-readers-by-flow .readers-by-flow .ensures) _ (test4 .if4 .left) (at-conflicts .conflicts .ensures))) ∙ sym (at-outside .outside .ensures) ∙ c .if5 .taken,
+      sym (ap (outside roleCount _) (conflicts-found _ _ _ _ _ _ _ _ _ (at-reach .reach .ensures) (at-readers-by-flow .readers-by-flow .ensures) _ (test4 .if4 .left) (at-conflicts .conflicts .ensures))) ∙ sym (at-outside .outside .ensures) ∙ c .if5 .taken,
     )
 
 returns-6 : tie.Need-returns-6

@@ -4,11 +4,12 @@ use mathlib.Core.List.{List}
 use native.Mathlib.Omega.{arith}
 use lib.ListN.{getD}
 use borrow.Author.Needs.{needs}
+use Rattle.model.specs.Limits.{flowCount}
 use Rattle.model.specs.State.{place, denyBefore}
 use Rattle.sessions.proofs.deny_before.Statement.{statement}
 use Rattle.sessions.proofs.deny_before.Tie as tie
 
-last : (denies : List ℕ) (s n : ℕ) → (n ≡ 0 → ⊥) → getD denies (s * 8 + (n - 1)) 0 ≡ denyBefore denies s n
+last : (denies : List ℕ) (s n : ℕ) → (n ≡ 0 → ⊥) → getD denies (s * flowCount + (n - 1)) 0 ≡ denyBefore denies s n
 unfolding denyBefore place
 last denies s zero h = absurd (h refl)
 last denies s (suc n) h = let e : suc n - 1 ≡ n = omega arith in rw e

@@ -5,6 +5,8 @@ use native.Mathlib.Omega.{arith}
 use lib.ListN.{getD}
 use borrow.Author.Needs.{needs}
 use Rattle.sets.specs.Sets.{shared}
+use Rattle.tables.specs.Tables.{roleCount}
+use Rattle.model.specs.Limits.{flowCount}
 use Rattle.model.specs.State.{filled}
 use Rattle.sessions.specs.Search.{setsPut}
 use Rattle.model.proofs.Laws.{filled-start, filled-more}
@@ -12,10 +14,10 @@ use Rattle.sessions.proofs.put_sets.Statement.{statement}
 use Rattle.sessions.proofs.put_sets.Tie as tie
 
 abbrev Inv-loop : tie.InvT-loop
-Inv-loop rolesets₀ may parents at g₀ rolesets g = (g ≤ 8) × (rolesets ≡ filled (at * 8) (λ i. shared 64 (getD may i 0) parents) g rolesets₀)
+Inv-loop rolesets₀ may parents at g₀ rolesets g = (g ≤ flowCount) × (rolesets ≡ filled (at * flowCount) (λ i. shared roleCount (getD may i 0) parents) g rolesets₀)
 
 abbrev μ-loop : tie.MeasureT-loop
-μ-loop rolesets₀ may parents at g₀ rolesets g = 8 - g
+μ-loop rolesets₀ may parents at g₀ rolesets g = flowCount - g
 
 loop-again : tie.Need-loop-again Inv-loop μ-loop
 loop-again c =
@@ -26,7 +28,7 @@ returns : tie.Need-returns Inv-loop μ-loop
 unfolding setsPut
 returns c =
     let at-loop = c .before in
-    let e : at-loop .loop .g ≡ 8 = omega arith in
+    let e : at-loop .loop .g ≡ flowCount = omega arith in
     rw e at (at-loop .loop .inv .1)
 
 pub put-sets-spec : {M : Type 1} → statement M

@@ -4,16 +4,17 @@ use native.Mathlib.Omega.{arith}
 use lib.ListN.{length}
 use borrow.Author.Needs.{needs}
 use Rattle.model.specs.State.{tablesOf, directoryOf, sessionsOf, engineOf}
-use Rattle.frames.proofs.Feeding.{Feeding, feeding-start, feeding-step, out-long, written-fits, ends-whole, ends-full, ends-open}
+use Rattle.decoding.specs.Frames.{LineAt}
+use Rattle.frames.proofs.Feeding.{Feeding, line-read, feeding-start, feeding-step, out-long, written-fits, ends-whole, ends-full, ends-open}
 use Rattle.frames.proofs.stream.feed.Statement.{statement}
 use Rattle.frames.proofs.stream.feed.Tie as tie
 
 abbrev Inv-loop : tie.InvT-loop
-Inv-loop roles₀ readers₀ forwards₀ users₀ version₀ opened₀ counts₀ roots₀ reaches₀ versions₀ denies₀ rolesets₀ input out₀ high low glyphs at₀ written₀ roles readers forwards users version opened counts roots reaches versions denies rolesets out at written =
+Inv-loop roles₀ readers₀ forwards₀ users₀ version₀ opened₀ counts₀ roots₀ reaches₀ versions₀ denies₀ rolesets₀ input out₀ high low at₀ written₀ roles readers forwards users version opened counts roots reaches versions denies rolesets out at written =
     Feeding input out₀ (engineOf (directoryOf (tablesOf roles₀ readers₀ forwards₀) users₀ version₀) (sessionsOf opened₀ counts₀ roots₀ reaches₀ versions₀ denies₀ rolesets₀)) out (engineOf (directoryOf (tablesOf roles readers forwards) users version) (sessionsOf opened counts roots reaches versions denies rolesets)) at written
 
 abbrev μ-loop : tie.MeasureT-loop
-μ-loop roles₀ readers₀ forwards₀ users₀ version₀ opened₀ counts₀ roots₀ reaches₀ versions₀ denies₀ rolesets₀ input out₀ high low glyphs at₀ written₀ roles readers forwards users version opened counts roots reaches versions denies rolesets out at written =
+μ-loop roles₀ readers₀ forwards₀ users₀ version₀ opened₀ counts₀ roots₀ reaches₀ versions₀ denies₀ rolesets₀ input out₀ high low at₀ written₀ roles readers forwards users version opened counts roots reaches versions denies rolesets out at written =
     length input - at
 
 loop-holds : tie.Need-loop-holds Inv-loop μ-loop
@@ -22,29 +23,34 @@ loop-holds c = feeding-start _ _ _
 sub-if1 : tie.Need-sub-if1 Inv-loop μ-loop
 sub-if1 c = written-fits _ _ _ _ _ _ _ (c .before .loop .inv)
 
-next-requires : tie.Need-next-requires Inv-loop μ-loop
-next-requires c κs = (c .before .before .before .before .before .before .before .highs .ensures, (c .before .before .before .before .before .before .lows .ensures, c .before .before .before .before .loop .inv .within))
+-- the line that was read in this turn
+line : (c : tie.After-next-line Inv-loop μ-loop) → LineAt (c .before .before .before .before .before .before .before .before .before .before .args .input .now) (c .before .before .before .before .before .loop .at) (c .next-line .result)
+line c = line-read (c .before .before .before .before .before .before .before .highs .ensures) (c .before .before .before .before .before .before .lows .ensures) (c .before .before .before .before .before .before .before .before .before .shared-slice-known .given) (c .next-line .ensures)
 
 answer-call-requires : tie.Need-answer-call-requires Inv-loop μ-loop
 answer-call-requires c κs =
-    let l = written-fits _ _ _ _ _ _ _ (c .before .before .before .before .before .before .before .before .before .before .before .before .before .before .before .before .before .before .before .before .loop .inv) in
-    let r = c .before .before .before .before .before .before .before .before .before .before .before .before .before .before .before .before .before .before .if1 .left in
-    (c .before .before .before .before .before .before .before .before .before .before .before .before .before .before .before .before .before .before .before .before .before .glyphs .ensures, omega arith)
+    let test = c .before .before .before .before .before .before .before .before .before .before .before .before .before .before .before .before .before in
+    let l = written-fits _ _ _ _ _ _ _ (test .before .before .loop .inv) in
+    let r = test .if1 .left in
+    omega arith
 
 add-at : tie.Need-add-at Inv-loop μ-loop
 add-at c =
-    let l = c .before .before .before .before .before .before .before .before .before .before .before .before .before .before .before .before .before .if2 .left in
-    let g = c .before .before .before .before .before .before .before .before .before .before .before .before .before .before .before .before .before .before .before .before .before .before .before .before .before .before .before .before .before .good in
+    let l = c .before .before .before .before .before .before .before .before .before .before .before .before .before .before .before .before .if2 .left in
+    let g = c .before .before .before .before .before .before .before .before .before .before .before .before .before .before .before .before .before .before .before .before .before .before .before .before .before .before .before .good in
     omega arith
 
 loop-less : tie.Need-loop-less Inv-loop μ-loop
 loop-less c =
-    let t = c .before .before .before .before .before .before .before .before .before .before .before .before .before .before .before .before .before .before .before .before .before .before .loop-test .taken in
-    let p = c .before .before .before .before .before .before .before .before .before .before .before .before .before .before .before .before .before .before .next .ensures .place in
+    let t = c .before .before .before .before .before .before .before .before .before .before .before .before .before .before .before .before .before .before .before .before .before .loop-test .taken in
+    let p = line (c .before .before .before .before .before .before .before .before .before .before .before .before .before .before .before .before .before) .place in
     omega arith
 
 loop-again : tie.Need-loop-again Inv-loop μ-loop
-loop-again c = feeding-step _ _ _ _ _ _ _ (c .before .before .before .before .before .before .before .before .before .before .before .before .before .before .before .before .before .before .before .before .before .before .before .loop .inv) (c .before .before .before .before .before .before .before .before .before .before .before .before .before .before .before .before .before .before .next .result) _ _ _ (c .before .before .before .before .before .before .before .before .before .before .before .before .before .before .before .before .before .before .next .ensures) (c .before .before .before .before .before .before .before .before .before .before .before .before .before .before .before .before .before .if2 .left) (c .before .before .before .before .before .before .before .before .before .before .before .before .before .before .before .before .before .before .before .before .before .if1 .left) (c .before .before .answer-call .ensures .0) (c .before .before .answer-call .ensures .1)
+loop-again c =
+    let read = c .before .before .before .before .before .before .before .before .before .before .before .before .before .before .before .before .before in
+    let test = read .before .before .before in
+    feeding-step _ _ _ _ _ _ _ (test .before .before .loop .inv) (read .next-line .result) _ _ _ (line read) (c .before .before .before .before .before .before .before .before .before .before .before .before .before .before .before .before .if2 .left) (test .if1 .left) (c .before .before .answer-call .ensures .0) (c .before .before .answer-call .ensures .1)
 
 same-length : tie.Need-same-length Inv-loop μ-loop
 same-length c = out-long _ _ _ _ _ _ _ (c .before .loop .inv)
@@ -62,7 +68,7 @@ same-length-3 : tie.Need-same-length-3 Inv-loop μ-loop
 same-length-3 c = out-long _ _ _ _ _ _ _ (c .before .before .before .before .before .before .loop .inv)
 
 returns-3 : tie.Need-returns-3 Inv-loop μ-loop
-returns-3 c = ends-open _ _ _ _ _ _ _ (c .before .before .before .before .before .before .loop .inv) (c .before .next .result) (c .before .next .ensures) (c .if2 .taken)
+returns-3 c = ends-open _ _ _ _ _ _ _ (c .before .before .before .before .before .before .loop .inv) (c .before .next-line .result) (line (c .before)) (c .if2 .taken)
 
 pub feed-spec : {M : Type 1} → statement M
 feed-spec =
@@ -72,10 +78,9 @@ feed-spec =
     μ-loop
     (λ c κs. search needs)
     (λ c κs. search needs)
-    (λ c κs. search needs)
     loop-holds
     sub-if1
-    next-requires
+    (λ c κs. search needs)
     answer-call-requires
     add-at
     loop-less

@@ -10,25 +10,26 @@ use borrow.Author.Needs.{needs}
 use borrow.Author.Tests.{eq-eqb, ne-eqb}
 use Rattle.sets.specs.Sets.{count, meeting}
 use Rattle.sets.proofs.Laws.{count-none, counted, uncounted}
+use Rattle.tables.specs.Tables.{userCount, roleCount}
 use Rattle.sessions.specs.Search.{conflictsOf}
 use Rattle.sessions.proofs.Laws.{few, second, Found, found-start, found-taken, found-left, found-passed}
 use Rattle.sessions.proofs.search.conflicts.Statement.{statement}
 use Rattle.sessions.proofs.search.conflicts.Tie as tie
 
 abbrev Inv-flows : tie.InvT-flows
-Inv-flows roles may n found u held seen₀ f₀ seen f = (f ≤ n) × (seen ≤ 1) × (count f (λ g. meeting 64 held (getD may g 0)) ≡ seen)
+Inv-flows roles may n found u held seen₀ f₀ seen f = (f ≤ n) × (seen ≤ 1) × (count f (λ g. meeting roleCount held (getD may g 0)) ≡ seen)
 
 abbrev μ-flows : tie.MeasureT-flows
 μ-flows roles may n found u held seen₀ f₀ seen f = n - f
 
 abbrev Inv-loop : tie.InvT-loop
-Inv-loop roles may n found₀ u₀ found u = (u ≤ 256) × Found 64 roles (λ v. leb 2 (count n (λ g. meeting 64 (getD roles v 0) (getD may g 0)))) u found
+Inv-loop roles may n found₀ u₀ found u = (u ≤ userCount) × Found roleCount roles (λ v. leb 2 (count n (λ g. meeting roleCount (getD roles v 0) (getD may g 0)))) u found
 
 abbrev μ-loop : tie.MeasureT-loop
-μ-loop roles may n found₀ u₀ found u = 256 - u
+μ-loop roles may n found₀ u₀ found u = userCount - u
 
 loop-holds : tie.Need-loop-holds Inv-flows μ-flows Inv-loop μ-loop
-loop-holds c = (omega arith, found-start 64 _ _)
+loop-holds c = (omega arith, found-start roleCount _ _)
 
 flows-holds : tie.Need-flows-holds Inv-flows μ-flows Inv-loop μ-loop
 flows-holds c = (omega arith, omega arith, count-none _)
@@ -44,7 +45,7 @@ flows-again c =
 
 -- after the inner loop, by whichever way: two were seen exactly where the roles meet two sets
 two-seen : (c : tie.Left-flows Inv-flows μ-flows Inv-loop μ-loop)
-    → leb 2 (count (c .before .before .before .before .before .before .before .before .args .n) (λ g. meeting 64 (c .before .before .before .before .row .result) (getD (c .before .before .before .before .before .before .before .before .args .may .now) g 0)))
+    → leb 2 (count (c .before .before .before .before .before .before .before .before .args .n) (λ g. meeting roleCount (c .before .before .before .before .row .result) (getD (c .before .before .before .before .before .before .before .before .args .may .now) g 0)))
     ≡ eqb (c .flows-test .seen) 2
 two-seen c =
     let i = c .before .flows .inv in
@@ -61,11 +62,11 @@ loop-again c =
     let g = at-loop .loop .inv .1 in
     let row = at-row .row .ensures in
     let may = start .args .may .now in
-    let same = ap (λ (h : ℕ). leb 2 (count (start .args .n) (λ g. meeting 64 h (getD may g 0)))) (sym row) in (
+    let same = ap (λ (h : ℕ). leb 2 (count (start .args .n) (λ g. meeting roleCount h (getD may g 0)))) (sym row) in (
       omega arith,
-      ⊎-elim (λ w. found-taken 64 _ _ _ _ _ _ g row (same ∙ two-seen (record { before = record { before = record { before = c .before; if1 = w .0 }; flows = w .1 }; flows-test = w .2 }) ∙ eq-eqb _ _ (w .3 .taken)) (w .5 ∙ w .4 .ensures))
-          (⊎-elim (λ w. rw (w .4) (found-left 64 _ _ _ _ g (same ∙ two-seen (record { before = record { before = record { before = c .before; if1 = w .0 }; flows = w .1 }; flows-test = w .2 }) ∙ ne-eqb _ _ (w .3 .left))))
-          (λ w. rw (w .1) (found-passed 64 _ _ _ _ _ g row (sym (at-difference .difference .ensures) ∙ w .0 .left))))
+      ⊎-elim (λ w. found-taken roleCount _ _ _ _ _ _ g row (same ∙ two-seen (record { before = record { before = record { before = c .before; if1 = w .0 }; flows = w .1 }; flows-test = w .2 }) ∙ eq-eqb _ _ (w .3 .taken)) (w .5 ∙ w .4 .ensures))
+          (⊎-elim (λ w. rw (w .4) (found-left roleCount _ _ _ _ g (same ∙ two-seen (record { before = record { before = record { before = c .before; if1 = w .0 }; flows = w .1 }; flows-test = w .2 }) ∙ ne-eqb _ _ (w .3 .left))))
+          (λ w. rw (w .1) (found-passed roleCount _ _ _ _ _ g row (sym (at-difference .difference .ensures) ∙ w .0 .left))))
           (c .if1 .came),
     )
 
@@ -73,7 +74,7 @@ returns : tie.Need-returns Inv-flows μ-flows Inv-loop μ-loop
 unfolding conflictsOf
 returns c =
     let at-loop = c .before in
-    let e : at-loop .loop .u ≡ 256 = omega arith in
+    let e : at-loop .loop .u ≡ userCount = omega arith in
     (rw e at (at-loop .loop .inv .1)) .so-far
 
 pub conflicts-spec : {M : Type 1} → statement M

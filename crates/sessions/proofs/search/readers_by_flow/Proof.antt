@@ -3,7 +3,8 @@ use Prim.Native.Nat.{_-_, _≤_}
 use mathlib.Core.Path.{_≡_, ap, _∙_}
 use native.Mathlib.Omega.{arith}
 use borrow.Author.Needs.{needs}
-use Rattle.tables.specs.Tables.{readersOf}
+use Rattle.tables.specs.Tables.{readersOf, roleCount, databaseCount}
+use Rattle.model.specs.Limits.{flowCount}
 use Rattle.model.specs.State.{filled, reachWith}
 use Rattle.sessions.specs.Search.{readersByFlow}
 use Rattle.model.proofs.Laws.{filled-start, filled-more}
@@ -11,22 +12,22 @@ use Rattle.sessions.proofs.search.readers_by_flow.Statement.{statement}
 use Rattle.sessions.proofs.search.readers_by_flow.Tie as tie
 
 abbrev Inv-loop : tie.InvT-loop
-Inv-loop readers reaches s n new may₀ g₀ may g = (g ≤ 8) × (may ≡ filled 0 (λ i. readersOf 64 64 readers (reachWith reaches s n new i)) g may₀)
+Inv-loop readers reaches s n new may₀ g₀ may g = (g ≤ flowCount) × (may ≡ filled 0 (λ i. readersOf roleCount databaseCount readers (reachWith reaches s n new i)) g may₀)
 
 abbrev μ-loop : tie.MeasureT-loop
-μ-loop readers reaches s n new may₀ g₀ may g = 8 - g
+μ-loop readers reaches s n new may₀ g₀ may g = flowCount - g
 
 loop-again : tie.Need-loop-again Inv-loop μ-loop
 loop-again c =
     let at-reach-with = c .before in
     let at-loop = at-reach-with .before .before in
-    (omega arith, filled-more 0 _ _ _ _ _ _ (at-loop .loop .inv .1) (omega arith) (c .readers .ensures ∙ ap (readersOf 64 64 _) (at-reach-with .reach-with .ensures)))
+    (omega arith, filled-more 0 _ _ _ _ _ _ (at-loop .loop .inv .1) (omega arith) (c .readers .ensures ∙ ap (readersOf roleCount databaseCount _) (at-reach-with .reach-with .ensures)))
 
 returns : tie.Need-returns Inv-loop μ-loop
 unfolding readersByFlow
 returns c =
     let at-loop = c .before in
-    let e : at-loop .loop .g ≡ 8 = omega arith in
+    let e : at-loop .loop .g ≡ flowCount = omega arith in
     rw e at (at-loop .loop .inv .1)
 
 pub readers-by-flow-spec : {M : Type 1} → statement M

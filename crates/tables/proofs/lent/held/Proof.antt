@@ -6,7 +6,7 @@ use native.Mathlib.Omega.{arith}
 use borrow.Author.Needs.{needs}
 use Rattle.sets.specs.Sets.{some}
 use Rattle.sets.proofs.Laws.{some-none, some-at}
-use Rattle.tables.specs.Rows.{there}
+use Rattle.rows.specs.Rows.{there}
 use Rattle.tables.specs.Tables.{heldBy}
 use Rattle.tables.proofs.Laws.{none-yet}
 use Rattle.tables.proofs.lent.held.Statement.{statement}

@@ -1,0 +1,306 @@
+-- Laws of reading by any two tables: pairs of bytes, the fields of a frame, a role set, and the frame that an input begins with.
+-- Assumes nothing.
+use Prim.Native.Nat.{ℕ, zero, suc, _+_, _-_, _*_, _/_, _^_, _≤_, _<_}
+use mathlib.Core.Path.{_≡_, refl, ap, sym, _∙_}
+use mathlib.Core.Bool.{Bool, true, false, cond, _&&_, and-true, and-false, and-assoc}
+use mathlib.Core.List.{List}
+use mathlib.Core.Logic.{_⊎_, ⊎-elim}
+use native.Mathlib.Nat.{add-zero, add-suc, add-assoc}
+use native.Mathlib.Decide.{decLt}
+use native.Mathlib.Omega.{arith}
+use lib.Bits.{bitOr, or-lt, or-add-and, and-le-l, and-le-r}
+use lib.Dec.{ltb, eqb, leb}
+use lib.ListN.{length, getD, take, drop, length-drop}
+use lib.Pow.{pow-add, pow-mono}
+use lib.Seq.{take-all, getD-drop}
+use borrow.Author.Tests.{lt-ltb, le-ltb, eq-eqb, ne-eqb, le-leb, lt-leb, ltb-true, leb-true, eqb-true}
+use Rattle.sets.proofs.Laws.{and-both}
+use Rattle.model.specs.declared.calls.Call.{Call}
+use Rattle.model.specs.declared.calls.Call.the-variants.{Unreadable}
+use Rattle.protocol.specs.Lines.{lineFeed, restDigits, calledBy}
+use Rattle.decoding.specs.declared.read.Pair.{Pair}
+use Rattle.decoding.specs.declared.read.Quad.{Quad}
+use Rattle.decoding.specs.declared.read.Chosen.{Chosen}
+use Rattle.decoding.specs.declared.read.Addition.{Addition}
+use Rattle.decoding.specs.declared.read.Frame.{Frame}
+use Rattle.decoding.specs.Fields.{pairAt, pairsRight, pairsNumber, endedBy, oneField, twoFields, fourFields, chosenSet, addition}
+use Rattle.decoding.specs.Frames.{isFrame, frameIf, callBy, frameBy}
+
+-- a part of a list that runs to its end
+pub to-end : (n : ℕ) (s : List ℕ) → n ≤ length s → take (length s - n) (drop n s) ≡ drop n s
+to-end n s h = take-all (length s - n) (drop n s) (omega (arith, length-drop n s))
+
+pub to-end-long : (n m : ℕ) (s : List ℕ) → n + m ≤ length s → m ≤ length (take (length s - n) (drop n s))
+to-end-long n m s h = rw (to-end n s (omega arith)) (omega (arith, length-drop n s))
+
+-- ---- several numbers by one test
+
+-- numbers joined bit by bit are at least each of them
+or-ge : (a b : ℕ) → (a ≤ bitOr a b) × (b ≤ bitOr a b)
+or-ge a b = (omega (arith, or-add-and a b, and-le-r a b), omega (arith, or-add-and a b, and-le-l a b))
+
+-- so they are all below 256 where the joined number is
+both-below : (a b : ℕ) → (ltb a 256 && ltb b 256) ≡ ltb (bitOr a b) 256
+both-below a b = go (decLt a 256) (decLt b 256)
+  where
+    go : Dec (a < 256) → Dec (b < 256) → (ltb a 256 && ltb b 256) ≡ ltb (bitOr a b) 256
+    go (yes p) (yes q) = rw (lt-ltb a 256 p, lt-ltb b 256 q, lt-ltb (bitOr a b) 256 (or-lt 8 a b p q))
+    go (yes p) (no q) = rw (lt-ltb a 256 p, le-ltb b 256 (omega (arith, q)), le-ltb (bitOr a b) 256 (omega (arith, q, or-ge a b .1)))
+    go (no p) q = rw (le-ltb a 256 (omega (arith, p)), le-ltb (bitOr a b) 256 (omega (arith, p, or-ge a b .0)))
+
+-- ---- pairs
+
+module _ (high low : List ℕ) where
+  pair-drop : (m i : ℕ) (s : List ℕ) → pairAt high low (drop m s) i ≡ pairAt high low s (m + i)
+  unfolding pairAt
+  pair-drop m i s = rw (getD-drop m s i 0, getD-drop m s (i + 1) 0, ← add-assoc m i 1)
+
+  -- the first k pairs and those behind them
+  pairs-split : (k n : ℕ) (s : List ℕ) → pairsRight high low s (k + n) ≡ (pairsRight high low s k && pairsRight high low (drop (2 * k) s) n)
+  unfolding pairsRight
+  pairs-split k zero s = rw (add-zero k) (sym (and-true (pairsRight high low s k)))
+  pairs-split k (suc n) s =
+      let e : 2 * k + 2 * n ≡ 2 * (k + n) = omega arith in
+      rw (add-suc k n, pairs-split k n s, pair-drop (2 * k) (2 * n) s, e)
+      (and-assoc (pairsRight high low s k) (pairsRight high low (drop (2 * k) s) n) (ltb (pairAt high low s (2 * (k + n))) 256))
+
+-- ---- fields
+
+-- a rest that is too short, has no line feed where it should, or has a pair that is not of digits, does not end as it should; so what is read is `bad`
+module _ {A : Type 0} (good bad : A) (high low s : List ℕ) (n : ℕ) where
+  pub too-short : length s ≤ 2 * n → bad ≡ cond (endedBy high low s n) good bad
+  unfolding endedBy
+  too-short h = rw (le-ltb (2 * n) (length s) h)
+
+  pub no-feed : (getD s (2 * n) 0 ≡ lineFeed → ⊥) → bad ≡ cond (endedBy high low s n) good bad
+  unfolding endedBy
+  no-feed h = rw (ne-eqb (getD s (2 * n) 0) lineFeed h, and-false (ltb (2 * n) (length s)))
+
+  pub not-right : pairsRight high low s n ≡ false → bad ≡ cond (endedBy high low s n) good bad
+  unfolding endedBy
+  not-right h = rw (h, and-false (eqb (getD s (2 * n) 0) lineFeed), and-false (ltb (2 * n) (length s)))
+
+pub ended-right : (high low s : List ℕ) (n : ℕ) → 2 * n < length s → getD s (2 * n) 0 ≡ lineFeed → pairsRight high low s n ≡ true → endedBy high low s n ≡ true
+unfolding endedBy
+ended-right high low s n l f r = rw (lt-ltb (2 * n) (length s) l, eq-eqb (getD s (2 * n) 0) lineFeed f, r)
+
+pub ended-parts : (high low s : List ℕ) (n : ℕ) → endedBy high low s n ≡ true → (2 * n < length s) × (getD s (2 * n) 0 ≡ lineFeed) × (pairsRight high low s n ≡ true)
+unfolding endedBy
+ended-parts high low s n e =
+    let p = and-both (ltb (2 * n) (length s)) _ e in
+    let q = and-both (eqb (getD s (2 * n) 0) lineFeed) _ (p .1) in
+    (ltb-true (2 * n) (length s) (p .0), eqb-true (getD s (2 * n) 0) lineFeed (q .0), q .1)
+
+-- one test for one field, for two, and for four
+pub one-test : (high low s : List ℕ) {a : ℕ} → a ≡ pairAt high low s 0 → pairsRight high low s 1 ≡ ltb a 256
+unfolding pairsRight
+one-test high low s first = rw first
+
+pub two-test : (high low s : List ℕ) {a b : ℕ} → a ≡ pairAt high low s 0 → b ≡ pairAt high low s 2 → pairsRight high low s 2 ≡ ltb (bitOr a b) 256
+unfolding pairsRight
+two-test high low s {a} {b} first second = rw (← first, ← second) (both-below a b)
+
+pub four-test : (high low s : List ℕ) {a b c d : ℕ} → a ≡ pairAt high low s 0 → b ≡ pairAt high low s 2 → c ≡ pairAt high low s 4 → d ≡ pairAt high low s 6
+    → pairsRight high low s 4 ≡ ltb (bitOr (bitOr (bitOr a b) c) d) 256
+unfolding pairsRight
+four-test high low s {a} {b} {c} {d} first second third fourth =
+    rw (← first, ← second, ← third, ← fourth, both-below a b, both-below (bitOr a b) c) (both-below (bitOr (bitOr a b) c) d)
+
+-- ---- a role set, pair by pair
+
+-- the first half pairs are of digits and make this number
+pub record SoFar (high low s : List ℕ) (i set : ℕ) : Type 0 where
+  pub half : ℕ
+  pub place : i ≡ 2 * half
+  pub few : half ≤ 8
+  pub right : pairsRight high low s half ≡ true
+  pub made : set ≡ pairsNumber high low s half
+  pub bound : set < 2 ^ (8 * half)
+
+pub sofar-start : (high low s : List ℕ) → SoFar high low s 0 0
+unfolding pairsRight pairsNumber
+sofar-start high low s = record { half = 0; place = refl; few = omega arith; right = refl; made = refl; bound = omega arith }
+
+module _ {high low s : List ℕ} {i set v : ℕ} (known : SoFar high low s i set) (more : i < 16) where
+  pub sofar-fits : v < 256 → set * 256 + v < 2 ^ 64
+  sofar-fits h = omega (arith, known .bound, pow-mono {i = 8 * known .half} {j = 56} (omega (arith, known .place)))
+
+  pub sofar-step : v ≡ pairAt high low s i → v < 256 → SoFar high low s (i + 2) (set * 256 + v)
+  unfolding pairsRight pairsNumber
+  sofar-step e h =
+      let n : ℕ = known .half in
+      let f : v ≡ pairAt high low s (2 * n) = e ∙ ap (pairAt high low s) (known .place) in
+      record {
+        half = suc n;
+        place = omega (arith, known .place);
+        few = omega (arith, known .place);
+        right = rw (known .right, ← f, lt-ltb v 256 h);
+        made = rw (known .made, f);
+        bound = let g : 2 ^ (8 * suc n) ≡ 2 ^ (8 * n) * 2 ^ 8 = rw (← pow-add 2 (8 * n) 8) (ap (λ m. 2 ^ m) (omega arith)) in omega (arith, g, known .bound);
+      }
+
+  pub sofar-wrong : v ≡ pairAt high low s i → 256 ≤ v → pairsRight high low s 8 ≡ false
+  unfolding pairsRight
+  sofar-wrong e h =
+      let n : ℕ = known .half in
+      let f : v ≡ pairAt high low s (2 * n) = e ∙ ap (pairAt high low s) (known .place) in
+      let m : suc n + (7 - n) ≡ 8 = omega (arith, known .place) in
+      ap (pairsRight high low s) (sym m) ∙ pairs-split high low (suc n) (7 - n) s ∙ rw (← f, le-ltb v 256 h, and-false (pairsRight high low s n))
+
+pub sofar-end : {high low s : List ℕ} {i set : ℕ} → SoFar high low s i set → 16 ≤ i → (pairsRight high low s 8 ≡ true) × (set ≡ pairsNumber high low s 8)
+sofar-end {high} {low} {s} {i} {set} g h =
+    let e : g .half ≡ 8 = omega (arith, g .place, g .few) in
+    (rw e at (g .right), rw e at (g .made))
+
+-- what was read of a role set that stands behind two fields
+module _ (high low s : List ℕ) {m : Chosen} (long : 20 < length s) (read : m ≡ chosenSet high low (take (length s - 4) (drop 4 s))) where
+  chosen : m ≡ chosenSet high low (drop 4 s)
+  chosen = rw (to-end 4 s (omega arith)) at read
+
+  set-test : m .right ≡ pairsRight high low (drop 4 s) 8
+  unfolding chosenSet
+  set-test = rw chosen (go (pairsRight high low (drop 4 s) 8))
+    where
+      go : (t : Bool) → cond {A = Chosen} t (record { right = true; set = pairsNumber high low (drop 4 s) 8 }) (record { right = false; set = 0 }) .right ≡ t
+      go true = refl
+      go false = refl
+
+  set-made : m .right ≡ true → m .set ≡ pairsNumber high low (drop 4 s) 8
+  unfolding chosenSet
+  set-made h = rw (chosen, sym set-test ∙ h)
+
+  pub set-wrong : m .right ≡ false → pairsRight high low s 10 ≡ false
+  set-wrong h = pairs-split high low 2 8 s ∙ rw (sym set-test ∙ h) (and-false (pairsRight high low s 2))
+
+  pub addition-read : {a b : ℕ} → getD s 20 0 ≡ lineFeed → a ≡ pairAt high low s 0 → b ≡ pairAt high low s 2 → bitOr a b < 256 → m .right ≡ true
+      → _≡_ {A = Addition} (record { right = true; a = a; b = b; set = m .set }) (addition high low s)
+  unfolding addition
+  addition-read {a} {b} f first second h t =
+      let r : pairsRight high low s 10 ≡ true = pairs-split high low 2 8 s ∙ rw (two-test high low s first second ∙ lt-ltb (bitOr a b) 256 h, sym set-test ∙ t) in
+      rw (ended-right high low s 10 long f r, first, second, set-made t)
+
+pub fields-wrong : (high low s : List ℕ) → pairsRight high low s 2 ≡ false → pairsRight high low s 10 ≡ false
+fields-wrong high low s h = pairs-split high low 2 8 s ∙ rw h
+
+-- ---- the frame that an input begins with
+
+abbrev pub some : Call → ℕ → Frame
+some c n = record { call = c; digits = n }
+
+abbrev pub none : Frame
+none = record { call = Unreadable; digits = 0 }
+
+-- whether there is one
+unfoldable pub begins : List ℕ → List ℕ → List ℕ → Bool
+begins high low s = leb 2 (length s) && (isFrame (callBy high low s) && endedBy high low (drop 2 s) (restDigits (pairAt high low s 0) / 2))
+
+pub record Begun (high low s : List ℕ) : Type 0 where
+  pub long : 2 ≤ length s
+  pub known : isFrame (callBy high low s) ≡ true
+  pub ended : endedBy high low (drop 2 s) (restDigits (pairAt high low s 0) / 2) ≡ true
+
+pub begun-parts : (high low s : List ℕ) → begins high low s ≡ true → Begun high low s
+unfolding begins
+begun-parts high low s e =
+    let p = and-both (leb 2 (length s)) _ e in
+    let q = and-both (isFrame (callBy high low s)) _ (p .1) in
+    record { long = leb-true 2 (length s) (p .0); known = q .0; ended = q .1 }
+
+-- what is so of no frame, and of one that is there, is so of what an input begins with
+pub frame-by : (high low s : List ℕ) (P : Frame → Type 0) → (begins high low s ≡ false → P none)
+    → (begins high low s ≡ true → P (some (callBy high low s) (2 + restDigits (pairAt high low s 0)))) → P (frameBy high low s)
+unfolding frameBy frameIf begins
+frame-by high low s P p q = go (begins high low s) refl
+  where
+    go : (t : Bool) → begins high low s ≡ t → P (cond t (some (callBy high low s) (2 + restDigits (pairAt high low s 0))) none)
+    go true e = q e
+    go false e = p e
+
+-- a frame is no longer than the input
+pub frame-within : (high low s : List ℕ) → frameBy high low s .digits ≤ length s
+frame-within high low s =
+    frame-by high low s (λ f. f .digits ≤ length s) (λ e. omega arith)
+    (λ e. let b = begun-parts high low s e in omega (arith, ended-parts high low (drop 2 s) _ (b .ended) .0, length-drop 2 s, b .long))
+
+-- what it is where the kind is k and this is the rest
+abbrev kindFrame : List ℕ → List ℕ → List ℕ → ℕ → Frame
+kindFrame high low rest k =
+    let call : Call = calledBy k (λ i. pairAt high low rest (2 * i)) (pairsNumber high low (drop 4 rest) 8) in
+    frameIf (isFrame call && endedBy high low rest (restDigits k / 2)) call (2 + restDigits k)
+
+pub record Kind (high low line rest : List ℕ) (k : ℕ) : Type 0 where
+  pub says : frameBy high low line ≡ kindFrame high low rest k
+
+pub kind-read : (high low line : List ℕ) {kind k : ℕ} → 2 ≤ length line → kind ≡ pairAt high low line 0 → kind ≡ k → Kind high low line (take (length line - 2) (drop 2 line)) k
+unfolding frameBy callBy
+kind-read high low line h e f = record { says = rw (to-end 2 line h, le-leb 2 (length line) h, ← e, f) }
+
+pub frame-short : (high low line : List ℕ) → length line < 2 → none ≡ frameBy high low line
+unfolding frameBy frameIf
+frame-short high low line h = rw (lt-leb 2 (length line) h)
+
+-- what the last arm of a `match` knows: none of the numbers from 1 on to n
+abbrev pub NoneOf : ℕ → ℕ → Type 0
+NoneOf k zero = Unit
+NoneOf k (suc n) = NoneOf k n × (k ≡ suc n → ⊥)
+
+pub past : (k n : ℕ) → (k ≡ 0 → ⊥) → NoneOf k n → n < k
+past k zero z w = omega (arith, z)
+past k (suc n) z w = omega (arith, past k n z (w .0), w .1)
+
+-- no kind is 0, or above 10
+pub unknown : (k : ℕ) (field : ℕ → ℕ) (set : ℕ) → (k < 1) ⊎ (10 < k) → calledBy k field set ≡ Unreadable
+unfolding calledBy
+unknown k field set h =
+    let no : (j : ℕ) → (1 ≤ j) × (j ≤ 10) → eqb k j ≡ false = λ j l. ne-eqb k j (λ e. ⊎-elim (λ w. omega arith) (λ w. omega arith) h) in
+    rw (
+      no 1 (omega arith),
+      no 2 (omega arith),
+      no 3 (omega arith),
+      no 4 (omega arith),
+      no 5 (omega arith),
+      no 6 (omega arith),
+      no 7 (omega arith),
+      no 8 (omega arith),
+      no 9 (omega arith),
+      no 10 (omega arith),
+    )
+
+module _ {high low line rest : List ℕ} {k : ℕ} (kind : Kind high low line rest k) where
+  pub no-arm : (k < 1) ⊎ (10 < k) → none ≡ frameBy high low line
+  unfolding frameIf isFrame
+  no-arm h = rw (kind .says, unknown k (λ i. pairAt high low rest (2 * i)) (pairsNumber high low (drop 4 rest) 8) h)
+
+  -- the fields as a reader answered them, made into a frame
+  arm : {R : Type 0} (right : R → Bool) (call : R → Call) (good bad : R) (n digits : ℕ) → right good ≡ true → right bad ≡ false
+      → kindFrame high low rest k ≡ frameIf (endedBy high low rest n) (call good) digits
+      → {r : R} → r ≡ cond (endedBy high low rest n) good bad → {f : Frame} → f ≡ frameIf (right r) (call r) digits → f ≡ frameBy high low line
+  unfolding frameIf
+  arm right call good bad n digits all none is e f = f ∙ rw e (go (endedBy high low rest n)) ∙ sym is ∙ sym (kind .says)
+    where
+      go : (t : Bool) → frameIf (right (cond t good bad)) (call (cond t good bad)) digits ≡ frameIf t (call good) digits
+      go true = rw all
+      go false = rw none
+
+  -- one, two and four fields, and two with a role set
+  pub one-arm : (C : ℕ → Call) → kindFrame high low rest k ≡ frameIf (endedBy high low rest 1) (C (pairAt high low rest 0)) 4
+      → {p : Pair} → p ≡ oneField high low rest → {f : Frame} → f ≡ frameIf (p .right) (C (p .a)) 4 → f ≡ frameBy high low line
+  unfolding oneField
+  one-arm C is = arm (λ p. p .right) (λ p. C (p .a)) _ _ 1 4 refl refl is
+
+  pub two-arm : (C : ℕ → ℕ → Call) → kindFrame high low rest k ≡ frameIf (endedBy high low rest 2) (C (pairAt high low rest 0) (pairAt high low rest 2)) 6
+      → {p : Pair} → p ≡ twoFields high low rest → {f : Frame} → f ≡ frameIf (p .right) (C (p .a) (p .b)) 6 → f ≡ frameBy high low line
+  unfolding twoFields
+  two-arm C is = arm (λ p. p .right) (λ p. C (p .a) (p .b)) _ _ 2 6 refl refl is
+
+  pub four-arm : (C : ℕ → ℕ → ℕ → ℕ → Call)
+      → kindFrame high low rest k ≡ frameIf (endedBy high low rest 4) (C (pairAt high low rest 0) (pairAt high low rest 2) (pairAt high low rest 4) (pairAt high low rest 6)) 10
+      → {p : Quad} → p ≡ fourFields high low rest → {f : Frame} → f ≡ frameIf (p .right) (C (p .a) (p .b) (p .c) (p .d)) 10 → f ≡ frameBy high low line
+  unfolding fourFields
+  four-arm C is = arm (λ p. p .right) (λ p. C (p .a) (p .b) (p .c) (p .d)) _ _ 4 10 refl refl is
+
+  pub set-arm : (C : ℕ → ℕ → ℕ → Call)
+      → kindFrame high low rest k ≡ frameIf (endedBy high low rest 10) (C (pairAt high low rest 0) (pairAt high low rest 2) (pairsNumber high low (drop 4 rest) 8)) 22
+      → {p : Addition} → p ≡ addition high low rest → {f : Frame} → f ≡ frameIf (p .right) (C (p .a) (p .b) (p .set)) 22 → f ≡ frameBy high low line
+  unfolding addition
+  set-arm C is = arm (λ p. p .right) (λ p. C (p .a) (p .b) (p .set)) _ _ 10 22 refl refl is

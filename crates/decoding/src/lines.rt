@@ -1,0 +1,79 @@
+// The next line of an input: its call, and where it ends. A frame's kind tells its length, so that
+// only a line that is no frame is searched for its line feed.
+use super::BYTES;
+use super::read;
+use model::Call;
+use protocol::KEPT;
+ghost use mathlib.Core.Path.{_≡_};
+ghost use mathlib.Core.List.{[], _∷_, _++_};
+ghost use Prim.Native.Nat.{_+_, _<_};
+ghost use lib.ListN.{length, take, drop};
+ghost use Rattle.protocol.specs.Widths.{kept};
+ghost use Rattle.protocol.specs.Lines.{lineFeed};
+ghost use Rattle.protocol.specs.Run.{feedAt};
+ghost use Rattle.decoding.specs.Frames.{nextBy};
+
+// A line's call, and the place of its line feed, or the input's end where it has none.
+pub struct NextLine {
+    pub call: Call,
+    pub end: usize,
+}
+
+// The place of the first line feed from a place on, or the end where there is none.
+pub fn find_feed(s: &[u8], from: usize) -> usize
+    ensures { λ r. ⌜ r ≡ from + feedAt (drop from (now (s .entry))) ⌝ }
+{
+    let mut at = from;
+    while at < s.len() {
+        if s[at] == 10 {
+            return at;
+        }
+        at += 1;
+    }
+    at
+}
+
+// The line from a place on.
+pub fn next_line<'a>(
+    high: &'a [u16; BYTES],
+    low: &'a [u16; BYTES],
+    s: &'a [u8],
+    at: usize,
+) -> NextLine
+    ensures { λ r. ⌜ r ≡ nextBy (now (high .entry)) (now (low .entry)) (now (s .entry)) at ⌝ }
+{
+    if s.len() < at {
+        return NextLine {
+            call: Call::Unreadable,
+            end: at,
+        };
+    }
+    let f = read::decode(high, low, &s[at..]);
+    let digits = f.digits;
+    if 0 < digits {
+        let call = f.call;
+        return NextLine {
+            call,
+            end: at + digits,
+        };
+    }
+    NextLine {
+        call: Call::Unreadable,
+        end: find_feed(s, at),
+    }
+}
+
+// A short line with its line feed.
+pub(crate) fn with_feed(line: &[u8]) -> [u8; KEPT]
+    requires { ⌜ length (now line) < kept ⌝ }
+    ensures { λ r. ⌜ take (length (now (line .entry)) + 1) r ≡ now (line .entry) ++ (lineFeed ∷ []) ⌝ }
+{
+    let mut bytes = [0u8; KEPT];
+    let mut i = 0usize;
+    while i < line.len() {
+        bytes[i] = line[i];
+        i += 1;
+    }
+    bytes[i] = 10;
+    bytes
+}

@@ -1,0 +1,321 @@
+// Writing an answer: its line, in digits, into a lent buffer from a place on.
+use model::Answer;
+use model::Constraint;
+use model::Engine;
+use model::Refusal;
+use model::Version;
+use protocol::LONGEST;
+use protocol::SET_DIGITS;
+use protocol::VERSION_DIGITS;
+ghost use mathlib.Core.Path.{_≡_};
+ghost use mathlib.Core.Bool.{_&&_};
+ghost use mathlib.Core.List.{List, [], _∷_, _++_};
+ghost use Prim.Native.Nat.{ℕ, suc, _+_, _*_, _%_, _≤_, _<_};
+ghost use lib.Dec.{leb};
+ghost use lib.ListN.{length};
+ghost use Rattle.model.specs.Limits.{flowCount};
+ghost use Rattle.model.specs.State.{placeCount, sessionsOf};
+ghost use Rattle.model.specs.Calls.{numberOf, returned, verdictOf};
+ghost use Rattle.protocol.specs.Widths.{fieldDigits, versionDigits, setDigits, longest};
+ghost use Rattle.protocol.specs.Digits.{glyph, hex};
+ghost use Rattle.protocol.specs.Lines.{lineFeed, roleSets, values, shownSets, lineOf};
+ghost use Rattle.protocol.specs.Run.{shownIn};
+ghost use Rattle.encoding.specs.Written.{Wrote, Puts, roomAt, hasPlace, shownPlace, constraintOf, lineAnswer, lineWritten};
+ghost use Rattle.encoding.specs.Written.{ending, endAnswer, endWritten};
+
+// What became of a line: the place behind it, or that it was not written.
+pub enum Line {
+    Written(usize),
+    NoRoom,
+}
+
+// The digit of v's last four bits.
+fn glyph(v: u64) -> u8
+    ensures { λ r. ⌜ r ≡ glyph (v % 16) ⌝ }
+{
+    let d = v % 16;
+    (48 + d + (d + 6) / 16 * 39) as u8
+}
+
+// The last two digits of v. Every line begins with two, so these are written without a loop.
+fn write_two(v: u64, out: &mut [u8], at: usize) -> usize
+    requires { ⌜ at + 2 ≤ length (now out) ⌝ }
+    ensures { λ r. ⌜ Wrote (now (out .entry)) (now (out .exit)) at r (hex 2 v) ⌝ }
+{
+    out[at] = glyph(v / 16);
+    out[at + 1] = glyph(v);
+    at + 2
+}
+
+// The last n digits of v, written from the last one, which needs no power of 16.
+fn write_hex(v: u64, n: usize, out: &mut [u8], at: usize) -> usize
+    requires { ⌜ at + n ≤ length (now out) ⌝ }
+    ensures { λ r. ⌜ Wrote (now (out .entry)) (now (out .exit)) at r (hex n v) ⌝ }
+{
+    let mut x = v;
+    let mut k = n;
+    while 0 < k {
+        k -= 1;
+        out[at + k] = glyph(x);
+        x /= 16;
+    }
+    at + n
+}
+
+// The first n role sets.
+fn write_sets(sets: &[u64], n: usize, out: &mut [u8], at: usize) -> usize
+    requires { ⌜ (n ≤ length (now sets)) × (at + setDigits * n ≤ length (now out)) ⌝ }
+    ensures { λ r. ⌜ Wrote (now (out .entry)) (now (out .exit)) at r (roleSets n (now (sets .entry))) ⌝ }
+{
+    let mut next = at;
+    let mut g = 0usize;
+    while g < n {
+        next = write_hex(sets[g], SET_DIGITS, out, next);
+        g += 1;
+    }
+    next
+}
+
+// The number of a refusal.
+fn number(why: Refusal) -> u64
+    ensures { λ r. ⌜ r ≡ numberOf why ⌝ }
+{
+    match why {
+        Refusal::Malformed => 1,
+        Refusal::AboveLimit => 2,
+        Refusal::AlreadyThere => 3,
+        Refusal::NotThere => 4,
+        Refusal::FlowAdded => 5,
+        Refusal::NotOpen => 6,
+        Refusal::SessionFull => 7,
+        Refusal::NotConflicting => 8,
+        Refusal::VersionsSpent => 9,
+        Refusal::NoSuchFlow => 10,
+        Refusal::OutOfReach => 11,
+        Refusal::NoPermission => 12,
+        Refusal::Changed => 13,
+        Refusal::Linkable => 14,
+    }
+}
+
+// 0 for what is accepted, else the number refused.
+fn returned(a: Answer) -> u64
+    ensures { λ r. ⌜ r ≡ returned (verdictOf a) ⌝ }
+{
+    match a {
+        Answer::Refused(why) => number(why),
+        Answer::Version(_) => 0,
+        Answer::Roles(_) => 0,
+        Answer::Flow {
+            number: _,
+            reach: _,
+            version: _,
+        } => 0,
+        Answer::Granted => 0,
+        Answer::Constraint {
+            session: _,
+            flow: _,
+        } => 0,
+    }
+}
+
+// A constraint with n role sets.
+fn write_constraint(
+    version: Version,
+    deny: u64,
+    sets: &[u64],
+    n: usize,
+    out: &mut [u8],
+    at: usize,
+) -> usize
+    requires { ⌜ (n ≤ length (now sets)) × (at + (versionDigits + setDigits + setDigits * n) ≤ length (now out)) ⌝ }
+    ensures { λ r. ⌜ Wrote (now (out .entry)) (now (out .exit)) at r (hex versionDigits version ++ (hex setDigits deny ++ roleSets n (now (sets .entry)))) ⌝ }
+{
+    let next = write_hex(version as u64, VERSION_DIGITS, out, at);
+    let next = write_hex(deny, SET_DIGITS, out, next);
+    write_sets(sets, n, out, next)
+}
+
+// A new flow's number, reach and version.
+fn write_flow(number: usize, reach: u32, version: Version, out: &mut [u8], at: usize) -> usize
+    requires { ⌜ at + (fieldDigits + fieldDigits + versionDigits) ≤ length (now out) ⌝ }
+    ensures { λ r. ⌜ Wrote (now (out .entry)) (now (out .exit)) at r (hex fieldDigits number ++ (hex fieldDigits reach ++ hex versionDigits version)) ⌝ }
+{
+    let next = write_two(number as u64, out, at);
+    let next = write_two(reach as u64, out, next);
+    write_hex(version as u64, VERSION_DIGITS, out, next)
+}
+
+// What follows the first two digits of a line; the constraint's parts are those of the flow that the
+// answer shows.
+fn write_values(
+    a: Answer,
+    version: Version,
+    deny: u64,
+    sets: &[u64],
+    out: &mut [u8],
+    at: usize,
+) -> usize
+    requires { ⌜ (shownSets a ≤ flowCount) × (flowCount ≤ length (now sets)) ⌝ }
+    requires { ⌜ at + (versionDigits + setDigits * (1 + flowCount)) ≤ length (now out) ⌝ }
+    ensures { λ r. ⌜ Wrote (now (out .entry)) (now (out .exit)) at r (values a (constraintOf version deny (now (sets .entry)))) ⌝ }
+{
+    match a {
+        Answer::Version(v) => write_hex(v as u64, VERSION_DIGITS, out, at),
+        Answer::Roles(m) => write_hex(m, SET_DIGITS, out, at),
+        Answer::Flow {
+            number,
+            reach,
+            version,
+        } => write_flow(number, reach, version, out, at),
+        Answer::Granted => at,
+        Answer::Constraint { session: _, flow } => {
+            write_constraint(version, deny, sets, flow + 1, out, at)
+        }
+        Answer::Refused(_) => at,
+    }
+}
+
+// The line of an answer, from a place on that leaves room for every line.
+fn write_line(
+    a: Answer,
+    version: Version,
+    deny: u64,
+    sets: &[u64],
+    out: &mut [u8],
+    at: usize,
+) -> usize
+    requires { ⌜ (shownSets a ≤ flowCount) × (flowCount ≤ length (now sets)) ⌝ }
+    requires { ⌜ at + longest ≤ length (now out) ⌝ }
+    ensures { λ r. ⌜ Wrote (now (out .entry)) (now (out .exit)) at r (lineOf a (constraintOf version deny (now (sets .entry)))) ⌝ }
+{
+    let next = write_two(returned(a), out, at);
+    let end = write_values(a, version, deny, sets, out, next);
+    out[end] = 10;
+    end + 1
+}
+
+// Whether every line has room from a place on.
+fn has_room(out: &[u8], at: usize) -> bool
+    ensures { λ b. ⌜ b ≡ roomAt (now (out .entry)) at ⌝ }
+{
+    if out.len() < at {
+        return false;
+    }
+    LONGEST <= out.len() - at
+}
+
+// A number and a line feed, which is the whole answer to a read, from a place on.
+pub fn write_number(n: u64, out: &mut [u8], at: usize) -> usize
+    ensures { λ r. ⌜ Puts (roomAt (now (out .entry)) at) (now (out .entry)) (now (out .exit)) at r (hex fieldDigits n ++ (lineFeed ∷ [])) ⌝ }
+{
+    if !has_room(out, at) {
+        return at;
+    }
+    let end = write_two(n, out, at);
+    out[end] = 10;
+    end + 1
+}
+
+// Whether the answer shows no constraint, or that of a flow that has a place.
+fn has_place(a: Answer) -> bool
+    ensures { λ b. ⌜ b ≡ hasPlace a ⌝ }
+{
+    if let Answer::Constraint { session, flow } = a {
+        if Engine::SESSIONS <= session {
+            return false;
+        }
+        return flow < Engine::FLOWS;
+    }
+    true
+}
+
+// The place of the flow that an answer shows.
+fn shown_place(a: Answer) -> usize
+    ensures { λ r. ⌜ r ≡ shownPlace a ⌝ }
+    ensures { λ r. ⌜ r < placeCount ⌝ }
+{
+    if let Answer::Constraint { session, flow } = a {
+        if session < Engine::SESSIONS {
+            if flow < Engine::FLOWS {
+                return session * Engine::FLOWS + flow;
+            }
+        }
+    }
+    0
+}
+
+// The line of an answer, from a place on; a constraint that it shows is taken from the arrays.
+pub fn write_answer<'a>(
+    a: Answer,
+    versions: &'a [Version; Engine::PLACES],
+    denies: &'a [u64; Engine::PLACES],
+    rolesets: &'a [u64; Engine::ROLE_SETS],
+    out: &mut [u8],
+    at: usize,
+) -> usize
+    ensures { λ r. ⌜ ((opened : ℕ) (counts roots reaches : List ℕ) → Puts (roomAt (now (out .entry)) at && hasPlace a) (now (out .entry)) (now (out .exit)) at r (lineOf a (shownIn (sessionsOf opened counts roots reaches (now (versions .entry)) (now (denies .entry)) (now (rolesets .entry))) a))) ⌝ }
+{
+    if !has_room(out, at) {
+        return at;
+    }
+    if !has_place(a) {
+        return at;
+    }
+    let k = shown_place(a);
+    let from = k * Engine::FLOWS;
+    let all = &rolesets[..];
+    write_line(
+        a,
+        versions[k],
+        denies[k],
+        &all[from..from + Engine::FLOWS],
+        out,
+        at,
+    )
+}
+
+// Whether an answer shows no more role sets than a constraint has.
+fn is_writable(a: Answer) -> bool
+    ensures { λ b. ⌜ b ≡ leb (shownSets a) flowCount ⌝ }
+{
+    if let Answer::Constraint { session: _, flow } = a {
+        return flow < Engine::FLOWS;
+    }
+    true
+}
+
+// The line of an answer at the start of `out`, where there is room for every line and the answer
+// shows no more role sets than a constraint has; else `out` is left as it was.
+pub fn answer_line(a: Answer, c: Constraint, out: &mut [u8]) -> Line
+    ensures { λ r. ⌜ (r ≡ lineAnswer (now (out .entry)) a c) × (now (out .exit) ≡ lineWritten (now (out .entry)) a c) ⌝ }
+{
+    if out.len() < LONGEST {
+        return Line::NoRoom;
+    }
+    if !is_writable(a) {
+        return Line::NoRoom;
+    }
+    let sets = c.roles;
+    Line::Written(write_line(a, c.version, c.deny, &sets, out, 0))
+}
+
+// The answer to a line that has no line feed, of which this many bytes are there, from a place on: its
+// number, where a line has begun.
+pub fn write_end(len: usize, out: &mut [u8], at: usize) -> Line
+    ensures { λ r. ⌜ (r ≡ endAnswer (now (out .entry)) at (ending len)) × (now (out .exit) ≡ endWritten (now (out .entry)) at (ending len)) ⌝ }
+{
+    if out.len() < at {
+        return Line::NoRoom;
+    }
+    if len == 0 {
+        return Line::Written(at);
+    }
+    if out.len() - at < 3 {
+        return Line::NoRoom;
+    }
+    out[at] = 48;
+    out[at + 1] = 49;
+    out[at + 2] = 10;
+    Line::Written(at + 3)
+}
