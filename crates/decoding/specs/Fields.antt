@@ -1,11 +1,12 @@
 -- What the code reads by: a table of what each byte counts for as the first of two digits, and one for the second. These definitions hold for any two tables,
 -- so that nothing is asked of who lends them; `Frames` says what the tables of the digits make of an input. The meaning of a line is `callOf`, which uses none of it.
 -- Assumes nothing.
-use Prim.Native.Nat.{ℕ, zero, suc, _+_, _*_}
+use Prim.Native.Nat.{ℕ, zero, suc, _+_, _*_, _/_}
 use mathlib.Core.Bool.{Bool, true, false, cond, _&&_}
 use mathlib.Core.List.{List}
 use lib.Dec.{eqb, ltb}
 use lib.ListN.{length, getD, set, drop, replicate}
+use Rattle.protocol.specs.Widths.{setDigits}
 use Rattle.protocol.specs.Digits.{glyph}
 use Rattle.protocol.specs.Lines.{lineFeed}
 use Rattle.decoding.specs.declared.read.Pair.{Pair}
@@ -60,12 +61,15 @@ fourFields high low s =
     cond (endedBy high low s 4) (record { right = true; a = pairAt high low s 0; b = pairAt high low s 2; c = pairAt high low s 4; d = pairAt high low s 6 })
     (record { right = false; a = 0; b = 0; c = 0; d = 0 })
 
--- a role set, eight pairs
+-- a role set has so many pairs
+abbrev pub setPairs : ℕ
+setPairs = setDigits / 2
+
 unfoldable pub chosenSet : List ℕ → List ℕ → List ℕ → Chosen
-chosenSet high low s = cond (pairsRight high low s 8) (record { right = true; set = pairsNumber high low s 8 }) (record { right = false; set = 0 })
+chosenSet high low s = cond (pairsRight high low s setPairs) (record { right = true; set = pairsNumber high low s setPairs }) (record { right = false; set = 0 })
 
 -- two fields and a role set
 unfoldable pub addition : List ℕ → List ℕ → List ℕ → Addition
 addition high low s =
-    cond (endedBy high low s 10) (record { right = true; a = pairAt high low s 0; b = pairAt high low s 2; set = pairsNumber high low (drop 4 s) 8 })
+    cond (endedBy high low s (2 + setPairs)) (record { right = true; a = pairAt high low s 0; b = pairAt high low s 2; set = pairsNumber high low (drop 4 s) setPairs })
     (record { right = false; a = 0; b = 0; set = 0 })

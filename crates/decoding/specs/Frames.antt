@@ -12,7 +12,7 @@ use Rattle.protocol.specs.Lines.{restDigits, calledBy, callOf}
 use Rattle.protocol.specs.Run.{feedAt}
 use Rattle.decoding.specs.declared.read.Frame.{Frame}
 use Rattle.decoding.specs.declared.lines.NextLine.{NextLine}
-use Rattle.decoding.specs.Fields.{pairAt, pairsNumber, endedBy}
+use Rattle.decoding.specs.Fields.{pairAt, pairsNumber, endedBy, setPairs}
 
 unfoldable pub isFrame : Call → Bool
 isFrame (Table c) = true
@@ -26,7 +26,7 @@ frameIf right call digits = cond right (record { call = call; digits = digits })
 
 -- the call of the kind that the first pair is, with the pairs of the rest as its fields
 unfoldable pub callBy : List ℕ → List ℕ → List ℕ → Call
-callBy high low s = calledBy (pairAt high low s 0) (λ i. pairAt high low (drop 2 s) (2 * i)) (pairsNumber high low (drop 4 (drop 2 s)) 8)
+callBy high low s = calledBy (pairAt high low s 0) (λ i. pairAt high low (drop 2 s) (2 * i)) (pairsNumber high low (drop 4 (drop 2 s)) setPairs)
 
 -- the frame that an input begins with: its kind is known, and behind the rest of it stands a line feed
 unfoldable pub frameBy : List ℕ → List ℕ → List ℕ → Frame

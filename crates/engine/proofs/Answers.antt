@@ -1,14 +1,13 @@
--- Answers carried from a part of the engine to the whole, and a constraint that is shown.
+-- The verdict that an answer is, and a constraint that is shown.
 -- Assumes nothing.
 use Prim.Native.Nat.{ℕ, _<_}
-use mathlib.Core.Path.{_≡_, refl, ap}
+use mathlib.Core.Path.{_≡_, refl}
 use mathlib.Core.Bool.{Bool, true, false, not}
 use native.Mathlib.Omega.{arith}
 use lib.Dec.{leb}
 use borrow.Author.Tests.{leb-false}
 use Rattle.sets.specs.Sets.{has}
 use Rattle.model.specs.Limits.{sessionCount, flowCount}
-use Rattle.model.specs.declared.Directory.{Directory}
 use Rattle.model.specs.declared.Sessions.{Sessions}
 use Rattle.model.specs.declared.calls.Answer.{Answer}
 use Rattle.model.specs.declared.calls.Answer.the-variants.{Constraint}
@@ -16,18 +15,7 @@ use Rattle.model.specs.declared.calls.Refusal.{Refusal}
 use Rattle.model.specs.declared.calls.Refusal.the-variants.{AboveLimit, NotOpen, NoSuchFlow}
 use Rattle.model.specs.declared.calls.Verdict.{Verdict}
 use Rattle.model.specs.declared.calls.Verdict.the-variants.{Granted, Refused}
-use Rattle.model.specs.State.{engineOf}
-use Rattle.model.specs.Calls.{Done, done, unless, verdictOf, answerOf, flowsIn, show}
-
--- ---- what was asked of a part leaves the rest as it is
-
-pub of-directory : {x y : Done Directory} (S : Sessions) → x ≡ y → done (x .answer) (engineOf (x .after) S) ≡ done (y .answer) (engineOf (y .after) S)
-of-directory S e = ap (λ (x : Done Directory). done (x .answer) (engineOf (x .after) S)) e
-
-pub of-sessions : {x y : Done Sessions} (D : Directory) → x ≡ y → done (x .answer) (engineOf D (x .after)) ≡ done (y .answer) (engineOf D (y .after))
-of-sessions D e = ap (λ (x : Done Sessions). done (x .answer) (engineOf D (x .after))) e
-
--- ---- verdicts
+use Rattle.model.specs.Calls.{unless, verdictOf, answerOf, flowsIn, show}
 
 pub verdict-answer : (v : Verdict) → verdictOf (answerOf v) ≡ v
 unfolding verdictOf answerOf

@@ -1,8 +1,5 @@
-// The linkage engine: any call of `model`, in place for who keeps the arrays (`step::step`), and the ten
-// calls by value. Each group of calls has a crate of its own: `directory`, `sessions`, `reading`.
-pub mod step;
-mod value;
-
+// The linkage engine by value, for who keeps an engine and lends nothing: each call gives its answer and
+// the engine after it. Who keeps the engine's arrays takes `step`.
 pub use model::Answer;
 pub use model::Ask;
 pub use model::Call;
@@ -16,14 +13,284 @@ pub use model::Sessions;
 pub use model::Shown;
 pub use model::Verdict;
 pub use model::Version;
-pub use value::add_flow;
-pub use value::assign;
-pub use value::conflicting;
-pub use value::forward;
-pub use value::fresh;
-pub use value::open_session;
-pub use value::permit;
-pub use value::read;
-pub use value::revoke;
-pub use value::show;
-pub use value::withdraw;
+pub use step::step;
+use tables::Tables;
+ghost use mathlib.Core.Path.{_≡_};
+ghost use Prim.Native.Nat.{_<_};
+ghost use lib.ListN.{replicate};
+ghost use Rattle.model.specs.Limits.{sessionCount, flowCount};
+ghost use Rattle.model.specs.State.{fresh, filled, rolesetAt};
+ghost use Rattle.model.specs.Calls.{verdictOf, answer, after, verdict, constraintAt, shownBy};
+
+// An engine with empty tables and no open session.
+pub fn fresh() -> Engine
+    ensures { λ e. ⌜ e ≡ fresh ⌝ }
+{
+    let tables = Tables::empty();
+    let directory = Directory {
+        tables,
+        versions: [0; Engine::USERS],
+        version: 0,
+    };
+    let sessions = Sessions {
+        opened: 0,
+        counts: [0; Engine::SESSIONS],
+        roots: [0; Engine::PLACES],
+        reaches: [0; Engine::PLACES],
+        versions: [0; Engine::PLACES],
+        denies: [0; Engine::PLACES],
+        rolesets: [0; Engine::ROLE_SETS],
+    };
+    Engine {
+        directory,
+        sessions,
+    }
+}
+
+// Any call, on a copy of the engine's arrays.
+fn taken(e: Engine, call: Call) -> Changed
+    ensures { λ x. ⌜ (x .answer ≡ answer e call) × (x .engine ≡ after e call) ⌝ }
+{
+    let d = e.directory;
+    let t = d.tables;
+    let kept = e.sessions;
+    let mut roles = t.roles;
+    let mut readers = t.readers;
+    let mut forwards = t.forwards;
+    let mut users = d.versions;
+    let mut version = d.version;
+    let mut opened = kept.opened;
+    let mut counts = kept.counts;
+    let mut roots = kept.roots;
+    let mut reaches = kept.reaches;
+    let mut versions = kept.versions;
+    let mut denies = kept.denies;
+    let mut rolesets = kept.rolesets;
+    let answer = step(
+        &mut roles,
+        &mut readers,
+        &mut forwards,
+        &mut users,
+        &mut version,
+        &mut opened,
+        &mut counts,
+        &mut roots,
+        &mut reaches,
+        &mut versions,
+        &mut denies,
+        &mut rolesets,
+        call,
+    );
+    let tables = Tables {
+        roles,
+        readers,
+        forwards,
+    };
+    let directory = Directory {
+        tables,
+        versions: users,
+        version,
+    };
+    let sessions = Sessions {
+        opened,
+        counts,
+        roots,
+        reaches,
+        versions,
+        denies,
+        rolesets,
+    };
+    Changed {
+        answer,
+        engine: Engine {
+            directory,
+            sessions,
+        },
+    }
+}
+
+// 01
+pub fn assign(e: Engine, u: usize, r: usize) -> Changed
+    ensures { λ x. ⌜ (x .answer ≡ answer e (Call.Table (Change.Assign u r))) × (x .engine ≡ after e (Call.Table (Change.Assign u r))) ⌝ }
+{
+    taken(e, Call::Table(Change::Assign { user: u, role: r }))
+}
+
+// 02
+pub fn withdraw(e: Engine, u: usize, r: usize) -> Changed
+    ensures { λ x. ⌜ (x .answer ≡ answer e (Call.Table (Change.Withdraw u r))) × (x .engine ≡ after e (Call.Table (Change.Withdraw u r))) ⌝ }
+{
+    taken(e, Call::Table(Change::Withdraw { user: u, role: r }))
+}
+
+// 03
+pub fn permit(e: Engine, r: usize, d: usize) -> Changed
+    ensures { λ x. ⌜ (x .answer ≡ answer e (Call.Table (Change.Permit r d))) × (x .engine ≡ after e (Call.Table (Change.Permit r d))) ⌝ }
+{
+    taken(
+        e,
+        Call::Table(Change::Permit {
+            role: r,
+            database: d,
+        }),
+    )
+}
+
+// 04
+pub fn revoke(e: Engine, r: usize, d: usize) -> Changed
+    ensures { λ x. ⌜ (x .answer ≡ answer e (Call.Table (Change.Revoke r d))) × (x .engine ≡ after e (Call.Table (Change.Revoke r d))) ⌝ }
+{
+    taken(
+        e,
+        Call::Table(Change::Revoke {
+            role: r,
+            database: d,
+        }),
+    )
+}
+
+// 05
+pub fn forward(e: Engine, from: usize, to: usize) -> Changed
+    ensures { λ x. ⌜ (x .answer ≡ answer e (Call.Table (Change.Forward from to))) × (x .engine ≡ after e (Call.Table (Change.Forward from to))) ⌝ }
+{
+    taken(e, Call::Table(Change::Forward { from, to }))
+}
+
+// 06
+pub fn open_session(e: Engine, s: usize) -> Changed
+    ensures { λ x. ⌜ (x .answer ≡ answer e (Call.Session s Ask.Open)) × (x .engine ≡ after e (Call.Session s Ask.Open)) ⌝ }
+{
+    taken(
+        e,
+        Call::Session {
+            session: s,
+            ask: Ask::Open,
+        },
+    )
+}
+
+// 07
+pub fn conflicting(e: Engine, s: usize, root: usize) -> Answer
+    ensures { λ a. ⌜ a ≡ answer e (Call.Session s (Ask.Conflicting root)) ⌝ }
+{
+    let d = e.directory;
+    let t = d.tables;
+    let kept = e.sessions;
+    sessions::conflicting(
+        &t.roles,
+        &t.readers,
+        &t.forwards,
+        kept.opened,
+        &kept.counts,
+        &kept.reaches,
+        s,
+        root,
+    )
+}
+
+// 08
+pub fn add_flow(e: Engine, s: usize, root: usize, chosen: u64) -> Changed
+    ensures { λ x. ⌜ (x .answer ≡ answer e (Call.Session s (Ask.Add root chosen))) × (x .engine ≡ after e (Call.Session s (Ask.Add root chosen))) ⌝ }
+{
+    taken(
+        e,
+        Call::Session {
+            session: s,
+            ask: Ask::Add { root, chosen },
+        },
+    )
+}
+
+// Whether an answer accepts its call, or refuses it.
+fn verdict_of(a: Answer) -> Verdict
+    ensures { λ v. ⌜ v ≡ verdictOf a ⌝ }
+{
+    match a {
+        Answer::Version(_) => Verdict::Granted,
+        Answer::Roles(_) => Verdict::Granted,
+        Answer::Flow {
+            number: _,
+            reach: _,
+            version: _,
+        } => Verdict::Granted,
+        Answer::Granted => Verdict::Granted,
+        Answer::Constraint {
+            session: _,
+            flow: _,
+        } => Verdict::Granted,
+        Answer::Refused(why) => Verdict::Refused(why),
+    }
+}
+
+// The role sets of the constraint of flow f of session s.
+fn sets_at(rolesets: &[u64; Engine::ROLE_SETS], s: usize, f: usize) -> [u64; Engine::FLOWS]
+    requires { ⌜ s < sessionCount ⌝ }
+    requires { ⌜ f < flowCount ⌝ }
+    ensures { λ l. ⌜ l ≡ filled 0 (rolesetAt (now (rolesets .entry)) s f) flowCount (replicate flowCount 0) ⌝ }
+{
+    let mut roles = [0u64; Engine::FLOWS];
+    let mut g = 0usize;
+    while g < Engine::FLOWS {
+        roles[g] = rolesets[(s * Engine::FLOWS + f) * Engine::FLOWS + g];
+        g += 1;
+    }
+    roles
+}
+
+// The constraint of flow f of session s.
+fn constraint_at(kept: Sessions, s: usize, f: usize) -> Constraint
+    requires { ⌜ s < sessionCount ⌝ }
+    requires { ⌜ f < flowCount ⌝ }
+    ensures { λ c. ⌜ c ≡ constraintAt kept s f ⌝ }
+{
+    let at = s * Engine::FLOWS + f;
+    let roles = sets_at(&kept.rolesets, s, f);
+    Constraint {
+        version: kept.versions[at],
+        deny: kept.denies[at],
+        roles,
+    }
+}
+
+// 0a
+pub fn show(e: Engine, s: usize, f: usize) -> Shown
+    ensures { λ x. ⌜ x ≡ shownBy e s f ⌝ }
+{
+    let kept = e.sessions;
+    let answer = sessions::show(kept.opened, &kept.counts, s, f);
+    let constraint = match verdict_of(answer) {
+        Verdict::Granted => constraint_at(kept, s, f),
+        Verdict::Refused(_) => {
+            Constraint {
+                version: 0,
+                deny: 0,
+                roles: [0; Engine::FLOWS],
+            }
+        }
+    };
+    Shown { answer, constraint }
+}
+
+// 09
+pub fn read(e: Engine, u: usize, s: usize, f: usize, d: usize) -> Verdict
+    ensures { λ v. ⌜ v ≡ verdict e (Call.Read u s f d) ⌝ }
+{
+    let directory = e.directory;
+    let t = directory.tables;
+    let kept = e.sessions;
+    reading::read(
+        &t.roles,
+        &t.readers,
+        &directory.versions,
+        kept.opened,
+        &kept.counts,
+        &kept.reaches,
+        &kept.versions,
+        &kept.denies,
+        &kept.rolesets,
+        u,
+        s,
+        f,
+        d,
+    )
+}

@@ -2,10 +2,9 @@
 // engine's arrays are the caller's, who lends them for each piece.
 use super::LONGEST;
 use encoding::Line;
-use engine::Call;
-use engine::Engine;
-use engine::Version;
-use engine::step;
+use model::Call;
+use model::Engine;
+use model::Version;
 ghost use mathlib.Core.Path.{_≡_};
 ghost use Prim.Native.Nat.{_+_, _≤_};
 ghost use lib.ListN.{length};

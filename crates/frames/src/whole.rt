@@ -1,8 +1,8 @@
 // A whole input at once, in one buffer.
 use super::stream;
 use encoding::Line;
-use engine::Engine;
-use engine::Version;
+use model::Engine;
+use model::Version;
 ghost use Rattle.frames.specs.Stream.{Ran};
 
 // The run of the program on this input, at the start of `out`. Where there is no room, `out` begins

@@ -1,11 +1,11 @@
 // The frame program: frames on standard input, answers on standard output. The engine's arrays are
 // main's own and are lent for each piece of input. The counts that come back are cut to the lengths of
 // the buffers, so that safety rests on no contract of another crate.
-use engine::Engine;
-use engine::Version;
 use frames::Line;
 use libc::STDIN_FILENO;
 use libc::STDOUT_FILENO;
+use model::Engine;
+use model::Version;
 ghost use Rattle.io.specs.Counts.{Counts};
 
 // The place that the output has come to, and whether it is still open.

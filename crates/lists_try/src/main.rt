@@ -1,10 +1,10 @@
 // Runs stored lists of frames. Each argument names a file, which goes to a fresh engine in pieces
 // that cut lines anywhere; the answers go to standard output. The counts that come back are what is
 // tried here, so nothing rests on them.
-use engine::Engine;
-use engine::Version;
 use frames::Line;
 use libc::STDOUT_FILENO;
+use model::Engine;
+use model::Version;
 ghost use Rattle.io.specs.Counts.{Counts};
 
 // How many bytes of a file are held at a time.

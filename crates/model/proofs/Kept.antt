@@ -6,13 +6,12 @@ use mathlib.Core.Path.{_≡_, refl, sym, ap, _∙_}
 use mathlib.Core.Bool.{Bool, true, false, _&&_, true≢false}
 use mathlib.Core.List.{List}
 use mathlib.Core.Logic.{_⊎_, inl, inr, ⊎-elim}
-use native.Mathlib.Nat.{eq-or-lt-of-le}
 use native.Mathlib.Decide.{decLt, ℕ-discrete}
 use native.Mathlib.Omega.{arith}
 use lib.Dec.{leb}
 use lib.ListN.{length, getD, List·getD-eq-default}
 use Rattle.sets.specs.Sets.{has, some, count, meeting}
-use Rattle.sets.proofs.Laws.{and-both, and-all, some-of, some-nowhere, some-cong, count-miss, count-cong, has-setOf, has-empty, has-shared}
+use Rattle.sets.proofs.Laws.{and-both, and-all, some-of, some-cong, count-cong, count-stops, has-setOf, has-empty, has-shared, meets-none}
 use Rattle.rows.specs.Rows.{there, image}
 use Rattle.tables.specs.declared.Tables.{Tables}
 use Rattle.tables.specs.Tables.{userCount, roleCount, databaseCount, holds, parentsOf, readersOf}
@@ -32,7 +31,7 @@ use Rattle.model.specs.Meaning.{flowsOf, reachOf, denyOf, rolesOf, Added
 use Rattle.model.proofs.Invariants.{Sized}
 use Rattle.model.proofs.Ledgers.{Since, Stays, Ordered, since-step, ordered-start, ordered-step, same-rows}
 use Rattle.model.proofs.Granted.{sessionOpened, changedSessions, changed}
-use Rattle.model.proofs.SeenRows.{bounded, and-swap, and-same, holds-seen, permits-seen, length-flows, flow-seen, number, after-cases, within-add}
+use Rattle.model.proofs.SeenRows.{bounded, and-same, holds-seen, permits-seen, length-flows, flow-seen, number, after-cases, within-add}
 use Rattle.model.proofs.Seen.{seen-fresh, seen-after}
 use Rattle.model.proofs.Meaning.{added}
 
@@ -181,17 +180,6 @@ kept-after e c z k =
     (rw (seen-after e c z) (since-step (seen e) c (k .ordered))) (rw (seen-after e c z) (ordered-step (seen e) c (k .ordered)))
 
 -- ---- row 14
-
--- a test that fails from n on counts no further
-count-stops : (n m : ℕ) (p : ℕ → Bool) → n ≤ m → ((i : ℕ) → n ≤ i → i < m → p i ≡ false) → count m p ≡ count n p
-count-stops n zero p l f = let q : n ≡ 0 = omega arith in rw q
-count-stops n (suc m) p l f =
-    ⊎-elim (λ q. rw q) (λ h. count-miss m p (f m (omega arith) (omega arith)) ∙ count-stops n m p (omega arith) (λ i a b. f i a (omega arith))) (eq-or-lt-of-le l)
-
--- a set meets nothing in the empty one
-meets-none : (n x : ℕ) → meeting n x 0 ≡ false
-unfolding meeting
-meets-none n x = some-nowhere n _ (λ i l. rw (has-empty i) (and-swap (has x i) false))
 
 module _ (e : Engine) (u s f : ℕ) (k : Kept e) (fl : f < flowCount) (l : f < length (seen e .flows s)) (v : seen e .version u ≤ flowOf (seen e) s f .version) where
   held : ℕ

@@ -20,13 +20,14 @@ use Rattle.model.specs.Limits.{sessionCount, flowCount}
 use Rattle.model.specs.State.{tablesOf, directoryOf, sessionsOf, place, setPlace, filled, reachWith, conflicts, outside, denyBefore, roleSet}
 use Rattle.model.specs.declared.calls.Answer.the-variants.{Flow}
 use Rattle.model.specs.Calls.{done, conflictsIn, withFlow, add}
-use Rattle.sessions.specs.Search.{readersByFlow, conflictsOf, setsPut}
+use Rattle.search.specs.Search.{readersByFlow, conflictsOf}
+use Rattle.sessions.specs.RoleSets.{setsPut}
 use Rattle.model.proofs.Laws.{getD-filled, filled-cong}
 
-module _ (readers reaches : List ℕ) (s n new : ℕ) where
+module _ (readers reaches : List ℕ) (s n new : ℕ) (here : leb sessionCount s ≡ false) where
   pub readers-at : (g : ℕ) → g < flowCount → getD (readersByFlow readers reaches s n new) g 0 ≡ readersOf roleCount databaseCount readers (reachWith reaches s n new g)
   unfolding readersByFlow
-  readers-at g l = ap (λ (i : ℕ). getD (readersByFlow readers reaches s n new) i 0) (sym (zero-add g)) ∙ getD-filled 0 _ flowCount (replicate flowCount 0) g (omega arith) l
+  readers-at g l = rw here (rw (zero-add g) at (getD-filled 0 (λ i. readersOf roleCount databaseCount readers (reachWith reaches s n new i)) flowCount (replicate flowCount 0) g (omega arith) l))
 
   pub conflicts-by-flow : (roles forwards : List ℕ) → n < flowCount
       → conflictsOf roles (readersByFlow readers reaches s n new) (n + 1) ≡ conflicts roleCount userCount databaseCount (tablesOf roles readers forwards) (suc n) (reachWith reaches s n new)
@@ -43,13 +44,13 @@ module _ (readers reaches : List ℕ) (s n new : ℕ) where
   sets-by-flow roles forwards deny at l = filled-cong at _ _ flowCount l (λ g k. ap (λ (x : ℕ). shared roleCount x (parentsOf roleCount userCount roles deny)) (readers-at g k))
 
 -- what a call works out of the readers by flow
-module _ (roles readers forwards reaches may : List ℕ) (s n root new : ℕ) (p : new ≡ reach databaseCount forwards root) (q : may ≡ readersByFlow readers reaches s n new) where
+module _ (roles readers forwards reaches may : List ℕ) (s n root new : ℕ) (here : leb sessionCount s ≡ false) (p : new ≡ reach databaseCount forwards root) (q : may ≡ readersByFlow readers reaches s n new) where
   pub conflicts-found : (found : ℕ) → n < flowCount → found ≡ conflictsOf roles may (n + 1) → found ≡ conflicts roleCount userCount databaseCount (tablesOf roles readers forwards) (suc n) (reachWith reaches s n (reach databaseCount forwards root))
-  conflicts-found found l e = e ∙ rw (q, p) (conflicts-by-flow readers reaches s n (reach databaseCount forwards root) roles forwards l)
+  conflicts-found found l e = e ∙ rw (q, p) (conflicts-by-flow readers reaches s n (reach databaseCount forwards root) here roles forwards l)
 
   pub sets-stored : (parents deny at : ℕ) (l l′ : List ℕ) → parents ≡ parentsOf roleCount userCount roles deny → l′ ≡ setsPut may parents at l
       → l′ ≡ filled at (λ g. roleSet roleCount userCount databaseCount (tablesOf roles readers forwards) deny (reachWith reaches s n (reach databaseCount forwards root) g)) flowCount l
-  sets-stored parents deny at l l′ k e = e ∙ rw (q, p, k) (sets-by-flow readers reaches s n (reach databaseCount forwards root) roles forwards deny at l)
+  sets-stored parents deny at l l′ k e = e ∙ rw (q, p, k) (sets-by-flow readers reaches s n (reach databaseCount forwards root) here roles forwards deny at l)
 
 -- the first role set's place, as the code works it out
 set-place : (s n : ℕ) → (s * flowCount + n) * flowCount ≡ setPlace s n 0
@@ -73,8 +74,8 @@ accepted roles readers forwards users counts roots reaches versions denies sets 
       w,
       o,
       lt-leb flowCount (getD counts s 0) l,
-      ap (outside roleCount chosen) (sym (conflicts-found roles readers forwards reaches may s (getD counts s 0) root new p q found l f)) ∙ x,
-      sets-stored roles readers forwards reaches may s (getD counts s 0) root new p q parents deny ((s * flowCount + getD counts s 0) * flowCount) sets sets′ k e,
+      ap (outside roleCount chosen) (sym (conflicts-found roles readers forwards reaches may s (getD counts s 0) root new a p q found l f)) ∙ x,
+      sets-stored roles readers forwards reaches may s (getD counts s 0) root new a p q parents deny ((s * flowCount + getD counts s 0) * flowCount) sets sets′ k e,
       set-place s (getD counts s 0),
       z,
       d,

@@ -1,7 +1,5 @@
 // What is asked of sessions. Each call is checked, carried out in place on lent arrays and answered in
 // one function, which promises what the call's definition in `model` says.
-mod search;
-
 use model::Answer;
 use model::Ask;
 use model::Engine;
@@ -15,7 +13,7 @@ ghost use Rattle.model.specs.Limits.{sessionCount, flowCount};
 ghost use Rattle.model.specs.State.{placeCount};
 ghost use Rattle.model.specs.State.{tablesOf, directoryOf, sessionsOf, denyBefore};
 ghost use Rattle.model.specs.Calls.{done, openSession, conflicting, add, show, ask};
-ghost use Rattle.sessions.specs.Search.{setsPut};
+ghost use Rattle.sessions.specs.RoleSets.{setsPut};
 
 // 06: session s is opened.
 pub fn open_session(opened: &mut u64, version: Version, s: usize) -> Answer

@@ -2,9 +2,9 @@
 -- Assumes nothing.
 use Prim.Native.Nat.{ℕ, zero, suc, _+_, _-_, _*_, _/_, _%_, _^_, _≤_, _<_}
 use mathlib.Core.Path.{_≡_, refl, sym, ap, ap₂, _∙_}
-use mathlib.Core.Bool.{Bool, true, false, not, _&&_, _||_, true≢false}
+use mathlib.Core.Bool.{Bool, true, false, not, _&&_, _||_, true≢false, and-false}
 use mathlib.Core.Logic.{_⊎_, inl, inr, ⊎-elim, _↔_}
-use native.Mathlib.Nat.{one-mul, pow-suc, mod-lt, mod-one, mod-eq-of-lt, div-eq-of-lt, div-self, div-one, mod-self, add-div-left, add-mod-left, le-refl, lt-of-lt-of-le}
+use native.Mathlib.Nat.{one-mul, pow-suc, mod-lt, mod-one, mod-eq-of-lt, div-eq-of-lt, div-self, div-one, mod-self, add-div-left, add-mod-left, le-refl, lt-of-lt-of-le, eq-or-lt-of-le}
 use native.Mathlib.Numerals.{one-add, add-one}
 use native.Mathlib.Decide.{decLt}
 use native.Mathlib.Omega.{arith}
@@ -236,6 +236,12 @@ count-more m (suc n) p l = go (decLt n m) (p n) refl (count-more m n p)
     go (yes k) b e f = let q : m ≡ suc n = omega arith in rw q (le-refl (count (suc n) p))
     go (no k) true e f = rw (count-hit n p e) (omega (arith, f (omega arith)))
     go (no k) false e f = rw (count-miss n p e) (f (omega arith))
+
+-- a test that fails from n on counts no further
+pub count-stops : (n m : ℕ) (p : ℕ → Bool) → n ≤ m → ((i : ℕ) → n ≤ i → i < m → p i ≡ false) → count m p ≡ count n p
+count-stops n zero p l f = let q : n ≡ 0 = omega arith in rw q
+count-stops n (suc m) p l f =
+    ⊎-elim (λ q. rw q) (λ h. count-miss m p (f m (omega arith) (omega arith)) ∙ count-stops n m p (omega arith) (λ i a b. f i a (omega arith))) (eq-or-lt-of-le l)
 
 -- a loop that counts: the numbers before i, and then i
 pub counted : (p : ℕ → Bool) (i k : ℕ) → count i p ≡ k → p i ≡ true → count (i + 1) p ≡ k + 1
@@ -540,6 +546,11 @@ meeting-iff n x y = (
       (r .0, r .1, e .0, e .1),
   λ r. some-at n (λ j. has x j && has y j) (r .0) (r .1) (and-true (r .2) (r .3)),
 )
+
+-- a set meets nothing in the empty one
+pub meets-none : (n x : ℕ) → meeting n x 0 ≡ false
+unfolding meeting
+meets-none n x = some-nowhere n _ (λ i l. rw (has-empty i) (and-false (has x i)))
 
 -- a set without one of its members is a smaller number: a loop that takes out one member after the other ends
 pub remove-falls : (n x i : ℕ) → x < 2 ^ n → i < n → has x i ≡ true → removed n x i < x

@@ -58,7 +58,7 @@ returns-5 c users =
       lt-leb _ _ (start .fits .chosen .fits),
       ap not (sym (at-contains .contains .ensures)) ∙ test3 .if3 .left,
       lt-leb _ _ (test4 .if4 .left),
-      sym (ap (outside roleCount _) (conflicts-found _ _ _ _ _ _ _ _ _ (at-reach .reach .ensures) (at-readers-by-flow .readers-by-flow .ensures) _ (test4 .if4 .left) (at-conflicts .conflicts .ensures))) ∙ sym (at-outside .outside .ensures) ∙ c .if5 .taken,
+      sym (ap (outside roleCount _) (conflicts-found _ _ _ _ _ _ _ _ _ (lt-leb _ _ (test1 .if1 .left)) (at-reach .reach .ensures) (at-readers-by-flow .readers-by-flow .ensures) _ (test4 .if4 .left) (at-conflicts .conflicts .ensures))) ∙ sym (at-outside .outside .ensures) ∙ c .if5 .taken,
     )
 
 returns-6 : tie.Need-returns-6
@@ -107,6 +107,7 @@ add-spec =
     returns-4
     (λ c κs. search needs)
     (λ c κs. search needs)
+    (λ c. search needs)
     (λ c. search needs)
     (λ c κs. search needs)
     (λ c κs. search needs)

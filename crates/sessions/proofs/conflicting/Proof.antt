@@ -50,7 +50,7 @@ returns-5 c roots versions denies rolesets =
       lt-leb _ _ (test2 .if2 .left),
       ap not (sym (at-contains .contains .ensures)) ∙ test3 .if3 .left,
       lt-leb _ _ (test4 .if4 .left),
-      conflicts-found _ _ _ _ _ _ _ _ _ (at-reach .reach .ensures) (at-readers-by-flow .readers-by-flow .ensures) _ (test4 .if4 .left) (c .conflicts .ensures),
+      conflicts-found _ _ _ _ _ _ _ _ _ (lt-leb _ _ (test1 .if1 .left)) (at-reach .reach .ensures) (at-readers-by-flow .readers-by-flow .ensures) _ (test4 .if4 .left) (c .conflicts .ensures),
     )
 
 pub conflicting-spec : {M : Type 1} → statement M
@@ -66,6 +66,7 @@ conflicting-spec =
     returns-4
     (λ c κs. search needs)
     (λ c κs. search needs)
+    (λ c. search needs)
     (λ c. search needs)
     (λ c κs. search needs)
     returns-5)

@@ -8,7 +8,7 @@ use Rattle.sets.specs.Sets.{shared}
 use Rattle.tables.specs.Tables.{roleCount}
 use Rattle.model.specs.Limits.{flowCount}
 use Rattle.model.specs.State.{filled}
-use Rattle.sessions.specs.Search.{setsPut}
+use Rattle.sessions.specs.RoleSets.{setsPut}
 use Rattle.model.proofs.Laws.{filled-start, filled-more}
 use Rattle.sessions.proofs.put_sets.Statement.{statement}
 use Rattle.sessions.proofs.put_sets.Tie as tie
