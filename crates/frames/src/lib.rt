@@ -9,6 +9,8 @@ pub use encoding::Line;
 pub use encoding::answer_line;
 pub use protocol::KEPT;
 pub use protocol::LONGEST;
+pub use protocol::SET_DIGITS;
+pub use protocol::VERSION_DIGITS;
 pub use stream::Fed;
 pub use stream::feed;
 pub use stream::finish;

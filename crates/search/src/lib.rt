@@ -28,7 +28,7 @@ fn reach_with(reaches: &[u64; Engine::PLACES], s: usize, n: usize, new: u64, g: 
 
 // The roles that may read a database in the reach of each flow of session s, with a new one counted
 // in; nobody where there is no such session. (A slice of reaches in place of their array costs a tenth
-// of all calls' time.)
+// of the time of a mixed list.)
 pub fn readers_by_flow<'a>(
     readers: &'a [u64; Engine::DATABASES],
     reaches: &'a [u64; Engine::PLACES],
