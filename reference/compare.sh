@@ -10,8 +10,9 @@
 #          17,18  or  17,
 #   LINES  lines in a list (20000)
 # Prints "same N lines" or the first line that differs, then how often each
-# answer number occurred.  Exits 1 on a difference.  MODEL names a model that
-# is built already; otherwise it is built into a temporary folder.
+# answer number occurred: by kind of list, and by whose frames they were.  Exits
+# 1 on a difference.  MODEL names a model that is built already; otherwise it is
+# built into a temporary folder.
 set -u
 if [ $# -lt 1 ] || [ $# -gt 3 ]; then
     echo "usage: compare.sh PROGRAM [SEEDS] [LINES]" >&2
@@ -33,14 +34,36 @@ name, seeds, lines, model, generate, tmp, stored = sys.argv[1:]
 found = name if os.path.isfile(name) else shutil.which(name)
 program = [os.path.abspath(found)] if found else shlex.split(name)
 signal.signal(signal.SIGPIPE, signal.SIG_IGN)
-KINDS = ["mixed", "reads", "edges", "versions", "noise"]
+KINDS = ["mixed", "reads", "edges", "versions", "noise", "turns"]
 if "," in seeds:
     seeds = [s for s in seeds.split(",") if s]
-else:       # odd and even in turn: the lists of kind versions differ by that
+else:       # odd and even in turn: lists of kinds versions and turns differ by that
     seeds = [str(random.SystemRandom().randrange(10 ** 6) * 2 + i % 2) for i in range(int(seeds))]
 
 counts = {k: {} for k in KINDS}
 differ = 0
+
+# Whose frames: 01 to 05 are of the tables, 06 to 0a the server's, 0b to 0f the
+# term bank's.  A line counts by its first two digits, malformed or not.
+OWNERS = ["tables", "server", "bank", "no kind"]
+POSSIBLE = {"tables": {0, 1, 2, 3, 4, 5, 9}, "no kind": {1}}
+POSSIBLE["server"] = POSSIBLE["bank"] = {0, 1, 2, 3, 6, 7, 8, 10, 11, 12, 13, 14}
+OWNER = {b"%02x" % k: OWNERS[(k - 1) // 5] for k in range(1, 16)}
+owned = {x: {} for x in ("stored", "fresh")}
+
+
+def count_owners(table, path, answers):
+    """Adds up whose frames met which row, and whose first flow closed forwarding."""
+    with open(path, "rb") as f:
+        frames = f.read().split(b"\n")
+    closer = None
+    for frame, answer in zip(frames, answers.split(b"\n")[:-1]):
+        owner, n = OWNER.get(frame[:2], "no kind"), int(answer[:2], 16)
+        table[owner, n] = table.get((owner, n), 0) + 1
+        if n == 5:
+            table[closer, "closed"] = table.get((closer, "closed"), 0) + 1
+        if n == 0 and frame[:2] in (b"08", b"0d"):
+            closer = closer or owner
 
 
 def by_file(command, path, out):
@@ -120,6 +143,7 @@ for name, path, expected in stored_lists():
         same = same and compare(title, path, expected, out, by_file(command, path, out), "stored")
         same = same and compare(title + " in pieces", path, expected, out,
                                 by_pieces(command, path, out, name), "stored")
+    count_owners(owned["stored"], path, expected)
     if same:
         print("%-12s: same %d lines" % (name, expected.count(b"\n")))
     else:
@@ -143,6 +167,7 @@ for kind in KINDS:
         for answer in expected.split(b"\n")[:-1]:
             n = answer[:2].decode()
             counts[kind][n] = counts[kind].get(n, 0) + 1
+        count_owners(owned["fresh"], path, expected)
         same = compare(title, path, expected, out, by_file(program, path, out))
         same = same and compare(title + " in pieces", path, expected, out,
                                 by_pieces(program, path, out, seed))
@@ -157,6 +182,15 @@ for n in range(15):
     row = [counts[k].get("%02x" % n, 0) for k in KINDS]
     print("%02x    " % n + "".join("%10d" % x for x in row) + "%10d" % sum(row)
           + ("" if sum(row) else "   not reached"))
+for where, table in owned.items():
+    print("\n%-6s" % where + "".join("%10s" % x for x in OWNERS))
+    for n in range(15):
+        print("%02x    " % n + "".join(
+            "%10s" % (table.get((x, n), 0) if n in POSSIBLE[x] else ".") for x in OWNERS)
+            + "".join("   not reached: " + x for x in OWNERS
+                      if n in POSSIBLE[x] and not table.get((x, n), 0)))
+    print("05 after the server's first flow %d, after the term bank's %d"
+          % tuple(table.get((x, "closed"), 0) for x in ("server", "bank")))
 print("\n%d lists, %d differ" % (lists, differ))
 sys.exit(1 if differ else 0)
 PYTHON

@@ -1,5 +1,5 @@
 #!/usr/bin/env python3
-"""Lists of frames for the linkage engine of document 01.
+"""Lists of frames for the linkage engine of document 01 with request K1.
 
     generate.py KIND SEED LINES > list      a list, the same for the same seed
     generate.py answers < list > answers    the answers of the model below
@@ -10,11 +10,20 @@ KIND is one of
     edges     limits, eighth and ninth flow, a reach of 64, malformed lines
     versions  the system version driven to 65535 and past it
     noise     random bytes, broken frames, huge lines, no last line feed
+    turns     the server's and the term bank's frames in turn, on one session
+              number at a time
+
+In all of them about half of the frames about sessions are the term bank's.
+In mixed and reads the product is drawn for each frame, so that no program can
+learn the order.
 
 A list has LINES lines, or more where the kind needs them: a list of kind
-edges has some 900 at least, one of kind versions some 66400.  Row 9 needs
-65535 changes before it, so of the mixed lists only those of 150000 lines or
-more meet it; versions always does.
+edges has some 1500 at least, one of kind versions some 66600, one of kind
+turns some 250.  Row 9 needs 65535 changes before it, so of the mixed lists
+only those of 150000 lines or more meet it; versions always does.  Of the lists
+of kind versions those of an odd seed have no flow before the limit.  Of those
+of kind turns the server's first flow closes forwarding where the seed is odd,
+the term bank's where it is even.
 """
 
 import random
@@ -22,6 +31,7 @@ import sys
 
 USERS, ROLES, DATABASES, SESSIONS, FLOWS = 256, 64, 64, 16, 8
 LAST_VERSION = 65535
+PRODUCTS = SERVER, BANK = "server", "bank"
 
 
 # ---------------------------------------------------------------- the model
@@ -41,7 +51,7 @@ class Engine:
         self.forwards = set()       # (database, database)
         self.system = 0
         self.version = {u: 0 for u in range(USERS)}
-        self.sessions = {}          # number: list of flows
+        self.sessions = {}          # (product, number): list of flows
         self._roles = {}            # roles(u), kept until the user's roles change
 
     # Definitions.
@@ -84,6 +94,7 @@ class Engine:
         return any((u, r) in self.holds and (u, o) in self.holds for u in self.holders(r))
 
     # Calls.  Each returns (number, answer); checks in the order of the rows.
+    # Those about sessions are told the product first.
 
     def new_version(self, users):
         self.system += 1
@@ -150,29 +161,30 @@ class Engine:
         self.forwards.add((d, e))
         return self.done()
 
-    def open(self, s):
+    def open(self, product, s):
         if s >= SESSIONS:
             return 2, ""
-        if s in self.sessions:
+        if (product, s) in self.sessions:
             return 3, ""
-        self.sessions[s] = []
+        self.sessions[product, s] = []
         return self.done()
 
-    def query(self, s, d):
+    def query(self, product, s, d):
         if s >= SESSIONS or d >= DATABASES:
             return 2, ""
-        if s not in self.sessions:
+        if (product, s) not in self.sessions:
             return 6, ""
-        if len(self.sessions[s]) == FLOWS:
+        flows = self.sessions[product, s]
+        if len(flows) == FLOWS:
             return 7, ""
-        return 0, role_set(self.conflicting([f.reach for f in self.sessions[s]] + [self.reach(d)]))
+        return 0, role_set(self.conflicting([f.reach for f in flows] + [self.reach(d)]))
 
-    def add(self, s, d, chosen):
+    def add(self, product, s, d, chosen):
         if s >= SESSIONS or d >= DATABASES:
             return 2, ""
-        if s not in self.sessions:
+        if (product, s) not in self.sessions:
             return 6, ""
-        flows = self.sessions[s]
+        flows = self.sessions[product, s]
         if len(flows) == FLOWS:
             return 7, ""
         reaches = [f.reach for f in flows] + [self.reach(d)]
@@ -184,14 +196,15 @@ class Engine:
         flows.append(Flow(d, reaches[-1], self.system, frozenset(deny), role_sets))
         return 0, "%02x%02x%04x" % (len(flows) - 1, len(reaches[-1]), self.system)
 
-    def read(self, u, s, f, d):
+    def read(self, product, u, s, f, d):
         if s >= SESSIONS or f >= FLOWS or d >= DATABASES:
             return 2
-        if s not in self.sessions:
+        if (product, s) not in self.sessions:
             return 6
-        if f >= len(self.sessions[s]):
+        flows = self.sessions[product, s]
+        if f >= len(flows):
             return 10
-        flow = self.sessions[s][f]
+        flow = flows[f]
         if d not in flow.reach:
             return 11
         held = self.roles(u)
@@ -204,22 +217,34 @@ class Engine:
             return 14
         return 0
 
-    def show(self, s, f):
+    def show(self, product, s, f):
         if s >= SESSIONS or f >= FLOWS:
             return 2, ""
-        if s not in self.sessions:
+        if (product, s) not in self.sessions:
             return 6, ""
-        if f >= len(self.sessions[s]):
+        flows = self.sessions[product, s]
+        if f >= len(flows):
             return 10, ""
-        flow = self.sessions[s][f]
+        flow = flows[f]
         return 0, "%04x%s%s" % (flow.version, role_set(flow.deny),
                                 "".join(role_set(x) for x in flow.role_sets))
 
-    # Frames.
+    # Frames: the call, whose it is, how many fields of two digits, and whether
+    # a role set follows them.
 
-    FIELDS = {"01": (assign, 2), "02": (withdraw, 2), "03": (permit, 2), "04": (revoke, 2),
-              "05": (forward, 2), "06": (open, 1), "07": (query, 2), "08": (add, 2),
-              "09": (lambda self, *x: (self.read(*x), ""), 4), "0a": (show, 2)}
+    def verdict(self, *x):
+        return self.read(*x), ""
+
+    FRAMES = {
+        "01": (assign, None, 2, False), "02": (withdraw, None, 2, False),
+        "03": (permit, None, 2, False), "04": (revoke, None, 2, False),
+        "05": (forward, None, 2, False),
+        "06": (open, SERVER, 1, False), "0b": (open, BANK, 1, False),
+        "07": (query, SERVER, 2, False), "0c": (query, BANK, 2, False),
+        "08": (add, SERVER, 2, True), "0d": (add, BANK, 2, True),
+        "09": (verdict, SERVER, 4, False), "0e": (verdict, BANK, 4, False),
+        "0a": (show, SERVER, 2, False), "0f": (show, BANK, 2, False),
+    }
 
     def answer(self, line):
         """The answer line, without its line feed, to a line without its own."""
@@ -228,15 +253,17 @@ class Engine:
         except UnicodeDecodeError:
             return "01"
         kind, rest = text[:2], text[2:]
-        if kind not in self.FIELDS or not all(c in "0123456789abcdef" for c in rest):
+        if kind not in self.FRAMES or not all(c in "0123456789abcdef" for c in rest):
             return "01"
-        function, fields = self.FIELDS[kind]
-        if len(rest) != 2 * fields + (16 if kind == "08" else 0):
+        function, product, fields, chosen = self.FRAMES[kind]
+        if len(rest) != 2 * fields + (16 if chosen else 0):
             return "01"
         values = [int(rest[i:i + 2], 16) for i in range(0, 2 * fields, 2)]
-        if kind == "08":
-            mask = int(rest[4:], 16)
+        if chosen:
+            mask = int(rest[2 * fields:], 16)
             values.append({r for r in range(ROLES) if mask // 2 ** r % 2 == 1})
+        if product is not None:
+            values.insert(0, product)
         number, rest = function(self, *values)
         return "%02x%s" % (number, rest)
 
@@ -260,8 +287,13 @@ def frame(kind, *fields):
     return "%02x" % kind + "".join("%02x" % x for x in fields)
 
 
-def frame_add(s, d, roles):
-    return frame(8, s, d) + role_set(roles)
+def ask(product, kind, *fields):
+    """The server's frame of that kind, 6 to 10, or the term bank's like of it."""
+    return frame(kind + 5 * PRODUCTS.index(product), *fields)
+
+
+def frame_add(product, s, d, roles):
+    return ask(product, 8, s, d) + role_set(roles)
 
 
 class List:
@@ -305,6 +337,9 @@ class List:
                 return thing
         return table[-1][1]
 
+    def product(self):
+        return self.pick(PRODUCTS)
+
     # Output.
 
     def quiet(self, text):
@@ -332,16 +367,16 @@ class List:
     # Malformed lines.
 
     def any_frame(self):
-        kind = self.between(1, 10)
-        fields = {6: 1, 8: 10, 9: 4}.get(kind, 2)
+        kind = self.between(1, 15)
+        fields = {6: 1, 8: 10, 9: 4, 11: 1, 13: 10, 14: 4}.get(kind, 2)
         return frame(kind, *[self.below(256) for _ in range(fields)])
 
     def small_frame(self):
         """A frame that may well be accepted."""
-        kind = self.between(1, 10)
-        if kind == 8:
-            return frame_add(self.below(4), self.below(8), [])
-        fields = {6: 1, 9: 4}.get(kind, 2)
+        kind = self.between(1, 15)
+        if kind in (8, 13):
+            return frame(kind, self.below(4), self.below(8)) + role_set([])
+        fields = {6: 1, 9: 4, 11: 1, 14: 4}.get(kind, 2)
         return frame(kind, *[self.below(4) for _ in range(fields)])
 
     def malformed(self):
@@ -366,9 +401,9 @@ class List:
         if how == 7:
             return good + self.pick([" ", "\0", "\t", "\0\0"])
         if how == 8:                                        # unknown kind
-            return self.pick(["00", "0b", "0c", "0f", "10", "11", "1a", "80", "a0", "ff"]) + good[2:]
+            return self.pick(["00", "10", "11", "1a", "1b", "1f", "80", "a0", "e0", "ff"]) + good[2:]
         if how == 9:                                        # the length of another kind
-            return "%02x" % self.between(1, 10) + self.any_frame()[2:] + self.pick(["", "00"])
+            return "%02x" % self.between(1, 15) + self.any_frame()[2:] + self.pick(["", "00"])
         if how == 10:                                       # overlong
             return good + "0" * self.pick([1, 2, 13, 16, 23, 64, 300])
         return good[:at] + " " + good[at:]
@@ -392,8 +427,10 @@ class World(List):
         self.roles_all = self.steady_roles + self.other_roles
         self.users_all = self.steady_users + self.other_users
         self.unrest = min(0.04, 200 / max(1, lines))    # changes of steady users and roles
-        self.flows = []                     # (session, flow number, reach)
-        self.pool = {n: [] for n in (0, 11, 12, 13, 14)}
+        # Of each product: its flows (session, flow number, reach), and reads by
+        # their verdict.
+        self.flows = {p: [] for p in PRODUCTS}
+        self.pool = {p: {n: [] for n in (0, 11, 12, 13, 14)} for p in PRODUCTS}
 
     # Set-up.
 
@@ -413,12 +450,12 @@ class World(List):
         frames.append(frame(5, *[self.pick(self.databases)] * 2))
         return self.some(frames, len(frames))
 
-    def early(self):
+    def early(self, p):
         """A session, or an addition that is refused: one flow alone conflicts
         with nothing.  Forwarding stays open."""
         s = self.pick([0, 7, 15])
-        return frame(6, s) if self.chance(0.5) else \
-            frame_add(s, self.root(), self.some(self.roles_all, self.between(1, 2)))
+        return ask(p, 6, s) if self.chance(0.5) else \
+            frame_add(p, s, self.root(), self.some(self.roles_all, self.between(1, 2)))
 
     # Changes.
 
@@ -444,155 +481,171 @@ class World(List):
                     if not steady else r
         return frame(kind, u, r) if kind <= 2 else frame(kind, r, d)
 
-    # Flows.
+    # Sessions and flows, each of one product.
 
-    def growing(self):
-        return [s for s in sorted(self.engine.sessions) if len(self.engine.sessions[s]) < FLOWS]
+    def opened(self, p):
+        return [s for s in range(SESSIONS) if (p, s) in self.engine.sessions]
 
-    def full(self):
-        return [s for s in sorted(self.engine.sessions) if len(self.engine.sessions[s]) == FLOWS]
+    def closed(self, p):
+        return [s for s in range(SESSIONS) if (p, s) not in self.engine.sessions]
 
-    def closed(self):
-        return [s for s in range(SESSIONS) if s not in self.engine.sessions]
+    def growing(self, p):
+        return [s for s in self.opened(p) if len(self.engine.sessions[p, s]) < FLOWS]
+
+    def full(self, p):
+        return [s for s in self.opened(p) if len(self.engine.sessions[p, s]) == FLOWS]
 
     def root(self):
         return self.pick(self.databases) if self.chance(0.9) else self.below(DATABASES)
 
-    def real_addition(self, s=None):
+    def conflicts(self, p, s, d):
+        """The roles that conflict in the session with a flow of that root."""
+        flows = self.engine.sessions.get((p, s), [])
+        return sorted(self.engine.conflicting([f.reach for f in flows] + [self.engine.reach(d)]))
+
+    def real_addition(self, p, s=None):
         """An addition with a chosen set that conflicts; accepted."""
-        growing = self.growing() if s is None else [s]
+        growing = self.growing(p) if s is None else [s]
         if not growing:
             return
-        s = max(growing, key=lambda x: len(self.engine.sessions[x])) if self.chance(0.5) \
+        s = max(growing, key=lambda x: len(self.engine.sessions[p, x])) if self.chance(0.5) \
             else self.pick(growing)
-        flows = self.engine.sessions[s]
         for _ in range(4):                  # look for a root that conflicts
             d = self.root()
-            found = sorted(self.engine.conflicting([f.reach for f in flows] + [self.engine.reach(d)]))
+            found = self.conflicts(p, s, d)
             if found:
                 break
         size = self.weighted([(1, 0), (5, 1), (3, 2), (1, 3), (0.3, 64)])
-        if self.line(frame_add(s, d, self.some(found, size))) == 0:
-            self.flows.append((s, len(flows) - 1, sorted(flows[-1].reach)))
+        if self.line(frame_add(p, s, d, self.some(found, size))) == 0:
+            self.added(p, s)
 
-    def gone(self):
+    def added(self, p, s):
+        flows = self.engine.sessions[p, s]
+        self.flows[p].append((s, len(flows) - 1, sorted(flows[-1].reach)))
+
+    def gone(self, p):
         """A denied role that nobody holds any more: chosen again, and in the
         constraint of the next flow."""
         e = self.engine
-        some = [s for s in self.growing() if e.sessions[s] and e.sessions[s][-1].deny]
+        some = [s for s in self.growing(p) if e.sessions[p, s] and e.sessions[p, s][-1].deny]
         if not some:
             return
         s = self.pick(some)
-        flows = e.sessions[s]
+        flows = e.sessions[p, s]
         role = min(self.some(sorted(flows[-1].deny), 3), key=lambda r: len(e.holders(r)))
         who = sorted(e.holders(role))
         for u in who:
             self.line(frame(2, u, role))
         d = self.pick([d for (r, d) in sorted(e.may_read) if r == role] or [self.root()])
-        self.line(frame_add(s, d, [role]))
-        self.real_addition(s)
-        self.quiet(frame(10, s, len(flows) - 1))
+        self.line(frame_add(p, s, d, [role]))
+        self.real_addition(p, s)
+        self.quiet(ask(p, 10, s, len(flows) - 1))
         for u in who:
             if self.chance(0.7):
                 self.line(frame(1, u, role))
 
-    def wrong_addition(self, dear):
+    def wrong_roles(self, p, s, d):
+        """A set that has a role which doesn't conflict."""
+        found = self.conflicts(p, s, d)
+        others = [r for r in range(ROLES) if r not in found]
+        flows = self.engine.sessions.get((p, s), [])
+        gone = [r for r in others if flows and r in flows[-1].deny]
+        if gone and self.chance(0.5):                   # denied before, but no conflict now
+            return self.some(gone, 1)
+        return self.some(found, self.below(3)) + self.some(others, self.between(1, 2))
+
+    def wrong_addition(self, p, dear):
         """An addition that is refused, or accepted by chance.  Only dear ones
         come as far as row 8."""
         roles = self.some(range(ROLES) if self.chance(0.3) else self.roles_all, self.between(0, 4))
         d = self.root()
         way = self.weighted([(4 if dear else 0, 8), (2, 7), (2, 6), (1, 2)])
-        s = {8: self.growing, 7: self.full, 6: self.closed}.get(way, self.growing)()
+        s = {8: self.growing, 7: self.full, 6: self.closed}.get(way, self.growing)(p)
         s = self.pick(s) if s else 16 + self.below(240)
         if way == 2:
             s, d = self.pick([(s, 64 + self.below(192)), (16 + self.below(240), d)])
         if way == 8:
-            flows = self.engine.sessions.get(s, [])
-            found = self.engine.conflicting([f.reach for f in flows] + [self.engine.reach(d)])
-            others = [r for r in range(ROLES) if r not in found]
-            roles = self.some(sorted(found), self.below(3)) + self.some(others, self.between(1, 2))
-            gone = [r for r in others if flows and r in flows[-1].deny]
-            if gone and self.chance(0.5):               # denied before, but no conflict now
-                roles = self.some(gone, 1)
-        before = sum(len(f) for f in self.engine.sessions.values())
-        if self.line(frame_add(s, d, roles)) == 0:
-            assert sum(len(f) for f in self.engine.sessions.values()) == before + 1
-            flows = self.engine.sessions[s]
-            self.flows.append((s, len(flows) - 1, sorted(flows[-1].reach)))
+            roles = self.wrong_roles(p, s, d)
+        if self.line(frame_add(p, s, d, roles)) == 0:
+            self.added(p, s)
+            assert sum(len(f) for f in self.engine.sessions.values()) \
+                == sum(len(f) for f in self.flows.values())
 
-    # Queries and reads.
+    # Queries and reads, each of one product.
 
-    def query(self):
-        s = self.weighted([(10, self.growing), (1, self.full), (1, self.closed)])()
+    def query(self, p):
+        s = self.weighted([(10, self.growing), (1, self.full), (1, self.closed)])(p)
         s = self.pick(s) if s else self.below(SESSIONS)
         d = self.root()
         if self.chance(0.03):
             s, d = self.pick([(s, 64 + self.below(192)), (16 + self.below(240), d)])
-        self.quiet(frame(7, s, d))
+        self.quiet(ask(p, 7, s, d))
 
-    def show(self):
-        if self.flows and self.chance(0.9):
-            s, f, _ = self.pick(self.flows)
+    def show(self, p):
+        if self.flows[p] and self.chance(0.9):
+            s, f, _ = self.pick(self.flows[p])
         else:
             s, f = self.between(0, SESSIONS), self.between(0, FLOWS)
-        self.quiet(frame(10, s, f))
+        self.quiet(ask(p, 10, s, f))
 
-    def read(self, outside):
+    def read(self, p, outside):
         """outside: the part of reads that meet rows 2, 6 and 10."""
-        if not self.flows or self.chance(outside):
+        flows = self.flows[p]
+        if not flows or self.chance(outside):
             way = self.below(3)
             u, s, f, d = self.pick(self.users_all), self.below(16), self.below(8), self.root()
             if way == 0:
                 s, f, d = self.pick([(s, f, 64 + self.below(192)), (s, 8 + self.below(248), d),
                                      (16 + self.below(240), f, d)])
             elif way == 1:
-                s = self.pick(self.closed() or [s])
+                s = self.pick(self.closed(p) or [s])
             else:
-                s = self.pick(self.growing() or [s])
-                f = self.between(min(7, len(self.engine.sessions.get(s, []))), 7)
-            self.quiet(frame(9, u, s, f, d))
+                s = self.pick(self.growing(p) or [s])
+                f = self.between(min(7, len(self.engine.sessions.get((p, s), []))), 7)
+            self.quiet(ask(p, 9, u, s, f, d))
             return
         # One candidate into the pool of its verdict, then one out of the pool
         # of the verdict that is wanted.
-        last = len(self.flows)
-        s, f, reach = self.flows[max(self.below(last), self.below(last))]     # sooner a late one
+        last = len(flows)
+        s, f, reach = flows[max(self.below(last), self.below(last))]     # sooner a late one
         u = self.pick(self.steady_users if self.chance(0.8) else self.other_users) \
             if self.chance(0.95) else self.below(USERS)
         d = self.pick(reach) if self.chance(0.9) else self.below(DATABASES)
-        pool = self.pool[self.engine.read(u, s, f, d)]
+        pool = self.pool[p][self.engine.read(p, u, s, f, d)]
         if len(pool) < 200:
             pool.append((u, s, f, d))
         else:
             pool[self.below(200)] = (u, s, f, d)
         wanted = self.weighted([(34, 0), (26, 14), (15, 13), (15, 12), (10, 11)])
         for _ in range(3):
-            stock = self.pool[wanted]
+            stock = self.pool[p][wanted]
             if not stock:
                 break
             i = self.below(len(stock))
-            if self.engine.read(*stock[i]) == wanted:
+            if self.engine.read(p, *stock[i]) == wanted:
                 u, s, f, d = stock[i]
                 break
             stock[i] = stock[-1]            # the tables have changed since
             stock.pop()
-        self.quiet(frame(9, u, s, f, d))
+        self.quiet(ask(p, 9, u, s, f, d))
 
-    def story(self):
+    def story(self, p):
         """One user's reads of the flows of one session, before and after a
         role is withdrawn, and after it came back."""
-        stock = [x for x in self.pool[14] if self.engine.read(*x) == 14]
+        stock = [x for x in self.pool[p][14] if self.engine.read(p, *x) == 14]
         if not stock:
             return
         u, s, f, _ = self.pick(stock)
+        flows = self.engine.sessions[p, s]
 
         def tour():
-            for g, flow in self.some(list(enumerate(self.engine.sessions[s])), FLOWS):
+            for g, flow in self.some(list(enumerate(flows)), FLOWS):
                 at = [d for d in sorted(flow.reach)
                       if any((r, d) in self.engine.may_read for r in self.engine.roles(u))]
                 if at:
-                    self.quiet(frame(9, u, s, g, self.pick(at)))
+                    self.quiet(ask(p, 9, u, s, g, self.pick(at)))
 
-        held, deny = sorted(self.engine.roles(u)), self.engine.sessions[s][f].deny
+        held, deny = sorted(self.engine.roles(u)), flows[f].deny
         role = self.pick([r for r in held if r not in deny] or held) if self.chance(0.7) \
             else self.pick(held)
         tour()
@@ -625,48 +678,48 @@ def mixed(seed, lines):
         if w.chance(0.03):
             w.line(w.malformed())
         if w.chance(0.03):
-            w.read(1)
+            w.read(w.product(), 1)
         if w.chance(0.03):
-            w.query()
+            w.query(w.product())
         if w.chance(0.06):
-            w.line(w.early())
-    additions = w.between(100, SESSIONS * FLOWS)
+            w.line(w.early(w.product()))
+    additions = w.between(100, SESSIONS * FLOWS)        # in each product
     # Changes may give 65535 versions in all: their part in a long list is less.
     changes = min(24, 40000 / max(1, lines) * 100)
     dear = min(1, 20000 / max(1, lines))
     while w.more():
         if w.chance(min(0.006, 60 / max(1, lines))):
-            w.story()
-        if len(w.flows) < additions * w.progress():
-            if w.closed() and (not w.growing() or len(w.engine.sessions) < 14 * w.progress()):
-                w.line(frame(6, w.pick(w.closed())))
+            w.story(w.product())
+        for p in w.some([p for p in PRODUCTS if len(w.flows[p]) < additions * w.progress()], 2):
+            if w.closed(p) and (not w.growing(p) or len(w.opened(p)) < 14 * w.progress()):
+                w.line(ask(p, 6, w.pick(w.closed(p))))
             if w.chance(0.08):
-                w.gone()
+                w.gone(p)
             else:
-                w.real_addition()
+                w.real_addition(p)
         # A long list ends at 65535: every second line rises when it is time.
         missing = LAST_VERSION - w.engine.system
         if lines >= 150000 and 0 < missing and (0.97 * lines - w.count) / 2 <= missing:
             w.line(w.toggle())
         call = w.weighted([(45, "read"), (changes, "change"), (5, "query"), (5, "add"),
                            (5, "show"), (2, "forward"), (1.5, "open"), (4, "malformed")])
+        p = w.product()
         if call == "read":
-            w.read(0.12)
+            w.read(p, 0.12)
         elif call == "change":
             w.line(w.change())
         elif call == "query":
-            w.query()
+            w.query(p)
         elif call == "add":
-            w.wrong_addition(w.chance(dear))
+            w.wrong_addition(p, w.chance(dear))
         elif call == "show":
-            w.show()
+            w.show(p)
         elif call == "forward":
-            if w.flows or w.chance(0.3):
+            if any(w.flows.values()) or w.chance(0.3):
                 w.line(frame(5, w.root(), w.root() if w.chance(0.8) else w.below(256)))
         elif call == "open":
-            s = w.pick(sorted(w.engine.sessions)) if w.engine.sessions and w.chance(0.7) \
-                else 16 + w.below(240)
-            w.line(frame(6, s))
+            s = w.pick(w.opened(p)) if w.opened(p) and w.chance(0.7) else 16 + w.below(240)
+            w.line(ask(p, 6, s))
         else:
             w.line(w.malformed())
     w.flush()
@@ -677,28 +730,31 @@ def reads(seed, lines):
     for f in w.set_up():
         w.line(f)
     for s in w.some(range(SESSIONS), SESSIONS):
-        w.line(frame(6, s))
-    additions = SESSIONS * FLOWS if lines >= 2000 else max(16, lines // 20)
-    while len(w.flows) < additions and w.growing():
-        w.real_addition()
-        if w.chance(0.3):
-            w.line(w.change())
+        for p in w.some(PRODUCTS, 2):
+            w.line(ask(p, 6, s))
+    additions = SESSIONS * FLOWS if lines >= 4000 else max(8, lines // 40)      # in each product
+    for _ in range(additions):
+        for p in w.some(PRODUCTS, 2):
+            w.real_addition(p)
+            if w.chance(0.3):
+                w.line(w.change())
     changes = min(3.0, 30000 / max(1, lines) * 100)
     while w.more():
         if w.chance(min(0.001, 6 / max(1, lines))):
-            w.story()
+            w.story(w.product())
+        p = w.product()
         if w.chance(0.95):
-            w.read(0.01)
+            w.read(p, 0.01)
         elif w.chance(changes / 5):
             w.line(w.change())
         else:
             call = w.below(4)
             if call == 0:
-                w.query()
+                w.query(p)
             elif call == 1:
-                w.show()
+                w.show(p)
             elif call == 2:
-                w.wrong_addition(False)
+                w.wrong_addition(p, False)
             else:
                 w.line(w.malformed() if w.chance(0.2) else frame(5, w.root(), w.root()))
     w.flush()
@@ -711,8 +767,10 @@ def edges(seed, lines):
     top = [0x3f, 0x40, 0x41, 0x7f, 0x80, 0xff]
 
     # Malformed lines, on a fresh engine.
-    good = ["010000", "020000", "030000", "040000", "050000", "0600", "070000",
-            frame_add(0, 0, []), "0900000000", "0a0000"]
+    good = ["010000", "020000", "030000", "040000", "050000"]
+    for p in PRODUCTS:
+        good += [ask(p, 6, 0), ask(p, 7, 0, 0), frame_add(p, 0, 0, []), ask(p, 9, 0, 0, 0, 0),
+                 ask(p, 10, 0, 0)]
     for g in good:
         n = len(g)
         for bad in (g[:-1], g[:-2], g + "0", g + "00", g + "\r", g + " ", g + "\0", " " + g,
@@ -721,8 +779,8 @@ def edges(seed, lines):
                     g[:-1] + "@", g[:-1] + "\x80", g[:-1] + "\xb0", g[:-1] + "\xff",
                     "\x80" + g[1:], "0" + "\x00" + g[2:], g + g, g + "\t" + g):
             w.line(bad)
-    for bad in ("", "\r", "\0", " ", "0", "00", "0b", "0A", "0A0000", "0B00", "000000",
-                "0b0000", "0f0000", "100000", "1a0000", "a00000", "ff0000", "0x0600",
+    for bad in ("", "\r", "\0", " ", "0", "00", "0b", "0f", "0A", "0A0000", "0B00", "0F0000",
+                "000000", "0b0000", "0f00", "1000", "100000", "1a0000", "a00000", "ff0000", "0x0600",
                 "\xef\xbb\xbf0600", "0" * 1000, "f" * 65535, "06" * 40000, "\0" * 70000):
         w.line(bad)
 
@@ -735,17 +793,19 @@ def edges(seed, lines):
             w.line(frame(kind, 0x40, x))
         w.line(frame(5, x, 0x40))
         w.line(frame(5, 0x40, x))
-        for s in (0x0f, 0x10):
-            w.line(frame(7, s, x))
-            w.line(frame_add(s, x, []))
-            w.line(frame_add(s, x, [63]))
-            w.line(frame(9, 0, s, 7, x))
-            w.line(frame(9, 0, s, 8, x))
-        w.line(frame(10, 15, x))
-        w.line(frame(10, x, 7))
+        for p in PRODUCTS:
+            for s in (0x0f, 0x10):
+                w.line(ask(p, 7, s, x))
+                w.line(frame_add(p, s, x, []))
+                w.line(frame_add(p, s, x, [63]))
+                w.line(ask(p, 9, 0, s, 7, x))
+                w.line(ask(p, 9, 0, s, 8, x))
+            w.line(ask(p, 10, 15, x))
+            w.line(ask(p, 10, x, 7))
     for s, f in ((15, 7), (15, 8), (16, 7), (16, 8)):
-        w.line(frame(10, s, f))
-        w.line(frame(9, 255, s, f, 63))
+        for p in PRODUCTS:
+            w.line(ask(p, 10, s, f))
+            w.line(ask(p, 9, 255, s, f, 63))
 
     # Tables at their limits.
     for u in (0, 255):
@@ -779,37 +839,45 @@ def edges(seed, lines):
     w.line(frame(5, 0x3f, 0x40))
     w.line(frame(5, 0x40, 0x3f))
 
-    # Sessions.
-    for s in (0, 0, 0x0f, 0x0f, 0x10, 0xff):
-        w.line(frame(6, s))
-    for kind in (7, 9, 10):
-        w.line(frame(kind, *((0, 1, 0, 0) if kind == 9 else (1, 0))))
-    w.line(frame_add(1, 0, []))
+    # Sessions: 16 to 31 are not the other product's.
+    for s in (0, 0, 0x0f, 0x0f, 0x10, 0x1f, 0x20, 0xff):
+        for p in PRODUCTS:
+            w.line(ask(p, 6, s))
+    for p in PRODUCTS:
+        w.line(ask(p, 7, 1, 0))
+        w.line(ask(p, 9, 0, 1, 0, 0))
+        w.line(ask(p, 10, 1, 0))
+        w.line(frame_add(p, 1, 0, []))
 
-    # Flow 0 to flow 8 of the session; choices that conflict and that do not.
-    def conflicts(s, d):
-        flows = w.engine.sessions[s]
+    # Flow 0 to flow 8 of the sessions; choices that conflict and that do not.
+    # The products take turns, and the seed says which is first.
+    def conflicts(p, s, d):
+        flows = w.engine.sessions[p, s]
         return sorted(w.engine.conflicting([f.reach for f in flows] + [w.engine.reach(d)]))
 
+    order = w.some(PRODUCTS, 2)
     for s in (0, 15):
         roots = [chain[0], chain[-1], chain[0]] + [w.pick(chain) for _ in range(6)]
-        for i, d in enumerate(roots):
-            w.line(frame(7, s, d))
-            w.line(frame(10, s, min(i, 8)))
-            w.line(frame_add(s, d, [5]))                # nobody holds role 5
-            if i == 0:
-                w.line(frame_add(s, d, [63]))           # one flow conflicts with nothing
-            chosen = w.some(conflicts(s, d), 1) if i < 8 and w.chance(0.6) else []
-            w.line(frame_add(s, d, chosen))
-            w.line(frame(5, 0, 1))                      # closed, also for a pair that is there
-            w.line(frame(5, chain[0], chain[1]))
-            for f in (i, i + 1):
-                w.line(frame(10, s, f))
-                for u in (0, 255, 7):
-                    w.line(frame(9, u, s, f, d))
-                    w.line(frame(9, u, s, f, 0x3f))
-        w.line(frame_add(s, 0x40, []))
-        w.line(frame_add(s, 0, range(64)))
+        for i, root in enumerate(roots):
+            for p in order:
+                d = root if w.chance(0.7) else w.pick(chain)
+                w.line(ask(p, 7, s, d))
+                w.line(ask(p, 10, s, min(i, 8)))
+                w.line(frame_add(p, s, d, [5]))         # nobody holds role 5
+                if i == 0:
+                    w.line(frame_add(p, s, d, [63]))    # one flow conflicts with nothing
+                chosen = w.some(conflicts(p, s, d), 1) if i < 8 and w.chance(0.6) else []
+                w.line(frame_add(p, s, d, chosen))
+                w.line(frame(5, 0, 1))                  # closed, also for a pair that is there
+                w.line(frame(5, chain[0], chain[1]))
+                for f in (i, i + 1):
+                    w.line(ask(p, 10, s, f))
+                    for u in (0, 255, 7):
+                        w.line(ask(p, 9, u, s, f, d))
+                        w.line(ask(p, 9, u, s, f, 0x3f))
+        for p in order:
+            w.line(frame_add(p, s, 0x40, []))
+            w.line(frame_add(p, s, 0, range(64)))
 
     # Lines at the limits by chance.
     values = [0, 1, 0x3e, 0x3f, 0x40, 0x41, 0x7f, 0x80, 0xff]
@@ -819,7 +887,7 @@ def edges(seed, lines):
     while w.more():
         kind = w.weighted([(3, 1), (3, 2), (2, 3), (2, 4), (1, 5), (0.5, 6), (2, 7), (2, 8),
                            (8, 9), (3, 10), (2, 0), (1, 99)])
-        u, s, f = w.pick(users), w.pick(sessions), w.pick(flows)
+        p, u, s, f = w.product(), w.pick(users), w.pick(sessions), w.pick(flows)
         r, d = w.pick(roles), w.pick(databases)
         if kind in (1, 2):
             w.line(frame(kind, u, r))
@@ -828,22 +896,22 @@ def edges(seed, lines):
         elif kind == 5:
             w.line(frame(5, d, w.pick(databases)))
         elif kind == 6:
-            w.line(frame(6, s))
+            w.line(ask(p, 6, s))
         elif kind == 7:
-            w.line(frame(7, s, d))
+            w.line(ask(p, 7, s, d))
         elif kind == 8:
             chosen = w.pick([[], [], [0], [63], [0, 63], range(64), [32], [31]])
-            if s in w.engine.sessions and len(w.engine.sessions[s]) < FLOWS and w.chance(0.5):
-                chosen = conflicts(s, min(d, 63))
-            w.line(frame_add(s, d, chosen))
+            if len(w.engine.sessions.get((p, s), [0] * FLOWS)) < FLOWS and w.chance(0.5):
+                chosen = conflicts(p, s, min(d, 63))
+            w.line(frame_add(p, s, d, chosen))
         elif kind == 9:
-            w.line(frame(9, u, s, f, d))
+            w.line(ask(p, 9, u, s, f, d))
         elif kind == 10:
-            w.line(frame(10, s, f))
+            w.line(ask(p, 10, s, f))
         elif kind == 0:
             w.line(w.malformed())
         else:
-            w.line(frame(w.between(1, 10), *[w.pick(values) for _ in range(w.pick([1, 2, 4]))]))
+            w.line(frame(w.between(1, 15), *[w.pick(values) for _ in range(w.pick([1, 2, 4]))]))
     w.flush()
 
 
@@ -866,14 +934,15 @@ def versions(seed, lines):
     for _ in range(5):
         w.line(frame(5, w.pick(databases), w.pick(databases)))
     for s in (0, 1, 15):
-        w.line(frame(6, s))
+        for p in PRODUCTS:
+            w.line(ask(p, 6, s))
 
-    def add(s):
-        flows = w.engine.sessions[s]
+    def add(p, s):
+        flows = w.engine.sessions[p, s]
         d = w.pick(databases)
         found = sorted(w.engine.conflicting([f.reach for f in flows] + [w.engine.reach(d)])) \
             if len(flows) < FLOWS else []
-        return w.line(frame_add(s, d, w.some(found, w.between(0, 2))))
+        return w.line(frame_add(p, s, d, w.some(found, w.between(0, 2))))
 
     def rise():
         """One line, one version."""
@@ -889,12 +958,12 @@ def versions(seed, lines):
     def look():
         """A line that raises nothing."""
         u, r, d = w.pick(users + [9]), w.pick(roles), w.pick(databases)
-        s, f = w.pick([0, 1, 15]), w.below(8)
+        p, s, f = w.product(), w.pick([0, 1, 15]), w.below(8)
         how = w.below(8)
         if how == 0:
-            w.line(frame(7, s, d))
+            w.line(ask(p, 7, s, d))
         elif how == 1:
-            w.line(frame(10, s, f))
+            w.line(ask(p, 10, s, f))
         elif how == 2:                                  # a role that nobody holds
             w.line(frame(4 if (40, d) in w.engine.may_read else 3, 40, d))
         elif how == 3 and len([x for x in w.engine.holds if x[1] == r]) > 1 and (u, r) in w.engine.holds:
@@ -902,8 +971,8 @@ def versions(seed, lines):
         elif how == 4 and w.engine.holds:
             w.line(frame(1, *w.pick(sorted(w.engine.holds))))
         else:
-            f = w.below(max(1, len(w.engine.sessions[s])))
-            w.line(frame(9, u, s, f, d))
+            f = w.below(max(1, len(w.engine.sessions[p, s])))
+            w.line(ask(p, 9, u, s, f, d))
 
     near = [1, 2, 255, 256, 4095, 4096, 32767, 32768, 65279, 65280, 65533, 65534]
     while w.engine.system < LAST_VERSION:
@@ -912,7 +981,8 @@ def versions(seed, lines):
         assert w.engine.system == before + 1
         if w.engine.system in near:
             if early and w.engine.system > 255:
-                add(w.pick([0, 1]))
+                for p in w.some(PRODUCTS, 2):
+                    add(p, w.pick([0, 1]))
             for _ in range(8):
                 look()
         elif w.chance(0.002):
@@ -950,18 +1020,21 @@ def versions(seed, lines):
     w.line(frame(5, 60, 61))                            # accepted without early flows, else 5
     w.line(frame(5, 60, 61))
     w.line(frame(5, 60, 60))
-    w.line(frame(6, 2))
-    w.line(frame(6, 2))
+    order = w.some(PRODUCTS, 2)
+    for p in order * 2:
+        w.line(ask(p, 6, 2))
     for s in (2, 15):
         for _ in range(9):
-            add(s)
-            w.line(frame(10, s, 0))
+            for p in order:
+                add(p, s)
+                w.line(ask(p, 10, s, 0))
     w.line(frame(5, 61, 62))
     for s in (0, 1, 2, 15):
         for f in range(8):
-            w.line(frame(10, s, f))
-            for u in users:
-                w.line(frame(9, u, s, f, w.pick(databases)))
+            for p in order:
+                w.line(ask(p, 10, s, f))
+                for u in users:
+                    w.line(ask(p, 9, u, s, f, w.pick(databases)))
     for _ in range(300):
         how = w.below(6)
         u, r, d = w.pick(users + [9]), w.pick(roles + [50]), w.pick(databases + [60])
@@ -974,8 +1047,8 @@ def versions(seed, lines):
         elif how == 3:
             w.line(frame(4, r, d))
         else:
-            s = w.pick([0, 1, 2, 15])
-            w.line(frame(9, u, s, w.below(max(1, len(e.sessions[s]))), d))
+            p, s = w.product(), w.pick([0, 1, 2, 15])
+            w.line(ask(p, 9, u, s, w.below(max(1, len(e.sessions[p, s]))), d))
     while w.more():
         if w.chance(0.3):
             how = w.between(1, 4)
@@ -1022,7 +1095,8 @@ def noise(seed, lines):
     # The last piece has no line feed: often a frame that would be accepted.
     last = w.weighted([(3, "frame"), (2, "any"), (1, "bytes"), (1, "huge")])
     if last == "frame":
-        piece = w.pick(["0600", "010000", "030000", frame(9, 0, 0, 0, 0), "0a0000"])
+        piece = w.pick(["0600", "0b00", "010000", "030000", frame(9, 0, 0, 0, 0), "0a0000",
+                        frame(14, 0, 0, 0, 0), "0f0000"])
     elif last == "any":
         piece = w.any_frame()
     elif last == "bytes":
@@ -1032,7 +1106,137 @@ def noise(seed, lines):
     out.write(piece.encode("latin-1"))
 
 
-KINDS = {"mixed": mixed, "reads": reads, "edges": edges, "versions": versions, "noise": noise}
+# ------------------------------------------------------------------- turns
+
+class Turns(World):
+    """The products take turns: of any two neighbours among the frames about
+    sessions one is the server's and one the term bank's."""
+
+    def __init__(self, kind, seed, lines):
+        super().__init__(kind, seed, lines)
+        self.now = self.product()
+
+    def turn(self, text):
+        """A line of the product whose turn it is; returns the number answered."""
+        number = self.line(text)
+        self.now = PRODUCTS[1 - PRODUCTS.index(self.now)]
+        return number
+
+    def flows_of(self, p, s):
+        return self.engine.sessions.get((p, s), [])
+
+    def wanted_read(self, p, s):
+        """A read of the session that gets the verdict wanted, if one is found."""
+        wanted = self.weighted([(30, 0), (22, 14), (14, 13), (12, 12), (10, 11), (8, 10), (4, 2)])
+        flows = self.flows_of(p, s)
+        if wanted == 2:
+            return self.pick([(0, 16 + s, 0, 0), (0, s, 8 + self.below(248), 0),
+                              (0, s, 0, 64 + self.below(192)), (0, 16 + self.below(240), 0, 0)])
+        if wanted == 10 or not flows:
+            return self.pick(self.users_all), s, self.between(min(7, len(flows)), 7), self.root()
+        for _ in range(25):
+            f = max(self.below(len(flows)), self.below(len(flows)))
+            d = self.pick(sorted(flows[f].reach)) if wanted != 11 else self.below(DATABASES)
+            x = self.pick(self.users_all), s, f, d
+            if self.engine.read(p, *x) == wanted:
+                break
+        return x
+
+    def addition(self, p, s):
+        """An addition that is accepted where the session has room."""
+        d = self.root()
+        found = self.conflicts(p, s, d) if len(self.flows_of(p, s)) < FLOWS else []
+        return frame_add(p, s, d, self.some(found, self.weighted([(2, 0), (5, 1), (3, 2)])))
+
+    def asked(self, p, s):
+        """Any frame of the product about the session."""
+        call = self.weighted([(50, 9), (8, 7), (8, 10), (7, 8), (3, 6), (4, 2)])
+        if call == 9:
+            return ask(p, 9, *self.wanted_read(p, s))
+        if call == 7:
+            return ask(p, 7, s, self.root())
+        if call == 10:
+            return ask(p, 10, s, self.between(0, min(7, len(self.flows_of(p, s)))))
+        if call == 8:
+            d = self.root()
+            return frame_add(p, s, d, self.wrong_roles(p, s, d))
+        if call == 6:
+            return ask(p, 6, s)
+        return self.pick([ask(p, 6, 16 + s), ask(p, 7, 16 + s, 0), frame_add(p, 16 + s, 0, []),
+                          ask(p, 10, 16 + s, 0), ask(p, 7, s, 64), frame_add(p, s, 64, []),
+                          ask(p, 10, s, 8), ask(p, 6, 16 + self.below(240))])
+
+    def like(self, text):
+        """The other product's frame with the same fields."""
+        return "%02x" % (int(text[:2], 16) + (5 if self.now == BANK else -5)) + text[2:]
+
+    def aside(self):
+        """Now and then a frame that is no product's."""
+        if self.chance(0.12):
+            self.line(self.change())
+        if self.chance(0.02):
+            self.line(frame(5, self.root(), self.root()))
+        if self.chance(0.01):                           # never a frame: the turns stay
+            self.line(self.any_frame() + self.pick(["0", "\r", " ", "000"]))
+
+
+def turns(seed, lines):
+    w = Turns("turns", seed, lines)
+    odd = int(seed) % 2 == 1 if str(seed).lstrip("-").isdigit() else w.chance(0.5)
+    closer = SERVER if odd else BANK
+
+    # The tables.  Openings, questions, refused additions and reads of either
+    # product leave forwarding open.
+    for f in w.set_up():
+        w.line(f)
+        if w.chance(0.3):
+            p, s = w.now, w.pick([0, 7, 15])
+            w.turn(w.pick([w.early(p), ask(p, 7, s, w.root()), ask(p, 9, *w.wanted_read(p, s))]))
+    numbers = w.some(range(SESSIONS), SESSIONS)
+    new = [(d, e) for d in w.databases for e in w.databases if (d, e) not in w.engine.forwards]
+    new = w.some(new, 4)
+    for _ in range(2):                                  # open now, at the latest
+        w.turn(ask(w.now, 6, numbers[0]))
+    w.line(frame(5, *new[0]))
+    if w.now != closer:
+        w.turn(frame_add(w.now, numbers[0], w.root(), [w.pick(w.roles_all)]))
+    w.line(frame(5, *new[1]))
+    w.turn(w.addition(closer, numbers[0]))              # the first flow of all
+    for pair in (new[2], new[0]):
+        w.line(frame(5, *pair))
+    w.turn(w.addition(w.now, numbers[0]))               # the other product's first
+    w.line(frame(5, *new[3]))
+
+    # One session number at a time.  One product, by chance, opens its session
+    # first and has eight flows in it before the other has.
+    chapters = max(1, min(SESSIONS, lines // 120))
+    for c in range(chapters):
+        s, begin = numbers[c], w.count
+        share = max(90, (w.wanted - begin) // (chapters - c))
+        ahead = w.product()
+        text = None
+        while w.count < begin + share:
+            w.aside()
+            p, part = w.now, (w.count - begin) / share
+            if text and w.chance(0.5):                  # what the other was asked just now
+                w.turn(w.like(text))
+                text = None
+                continue
+            due = min(FLOWS, FLOWS * part / (0.45 if p == ahead else 0.8))
+            if (p, s) not in w.engine.sessions and part > (0.08 if p == ahead else 0.16):
+                text = ask(p, 6, s)
+            elif len(w.flows_of(p, s)) < due and w.chance(0.7):
+                text = w.addition(p, s)
+            elif c and w.chance(0.1):                   # an older session
+                text = w.asked(p, w.pick(numbers[:c]))
+            else:
+                text = w.asked(p, s)
+            w.turn(text)
+    w.flush()
+
+
+KINDS = {"mixed": mixed, "reads": reads, "edges": edges, "versions": versions, "noise": noise,
+         "turns": turns}
 
 
 def main(argv):

@@ -5,8 +5,9 @@
 # a mixed list of LINES lines (1000000), in turn, RUNS runs each (9); medians
 # and their ratio.  Then the user time for a peer that sends one frame and
 # waits for its answer before it sends the next (PEER frames, 200000), and what
-# one read costs as users, roles, flows and sessions in use grow.  MODEL names a model that is built already; SEED gives
-# other lists.  From the root of the repository:
+# one read costs as users, roles, flows, sessions and products in use grow.
+# MODEL names a model that is built already; SEED gives other lists.  From the
+# root of the repository:
 #     reference/measure.sh target/bin/linkage
 set -u
 if [ $# -lt 1 ] || [ $# -gt 2 ]; then
@@ -107,8 +108,8 @@ sys.stdout.flush()
 # (many).  From two flows on every reader holds a role of the deny set and meets
 # one role set: the longest way to a grant.  Role 2 is the denied one, role 10+f
 # reads database f, the root of flow f; user 255 reads all and makes role 2
-# conflict.
-def reads(path, users, roles, flows, sessions, count):
+# conflict.  The term bank's kinds are five after the server's.
+def reads(path, users, roles, flows, sessions, products, count):
     out = []
     for f in range(flows):
         out.append("03%02x%02x" % (10 + f, f))
@@ -117,18 +118,19 @@ def reads(path, users, roles, flows, sessions, count):
     for u in range(users):
         for r in [2, 10 + flows - 1 - u % flows] + list(range(20, 20 + roles)):
             out.append("01%02x%02x" % (u, r))
-    for s in range(sessions):
-        out.append("06%02x" % s)
-        for f in range(flows):
-            out.append("08%02x%02x%016x" % (s, f, 4 if f == 1 else 0))
+    for p in range(products):
+        for s in range(sessions):
+            out.append("%02x%02x" % (6 + 5 * p, s))
+            for f in range(flows):
+                out.append("%02x%02x%02x%016x" % (8 + 5 * p, s, f, 4 if f == 1 else 0))
     with open(path + ".set-up", "w") as f:
         f.write("".join(x + "\n" for x in out))
     ring, x = [], 1
     for _ in range(4096):                   # in no order that a processor could learn
         x = (x * 1103515245 + 12345) % 2 ** 31
-        u, s = (x >> 8) % users, (x >> 16) % sessions
+        u, s, p = (x >> 8) % users, (x >> 16) % sessions, (x >> 20) % products
         f = flows - 1 - u % flows
-        ring.append("09%02x%02x%02x%02x\n" % (u, s, f, f))
+        ring.append("%02x%02x%02x%02x%02x\n" % (9 + 5 * p, u, s, f, f))
     block = "".join(ring)
     with open(path, "w") as f:
         f.write("".join(x + "\n" for x in out))
@@ -141,13 +143,14 @@ def reads(path, users, roles, flows, sessions, count):
     return max(1, count // 4096) * 4096
 
 
-cases = [("1 user, 2 roles, 1 flow, 1 session", (1, 0, 1, 1)), ("2 flows", (1, 0, 2, 1)),
-         ("8 flows", (1, 0, 8, 1)), ("16 sessions", (1, 0, 1, 16)), ("255 users", (255, 0, 1, 1)),
-         ("46 roles each", (1, 44, 1, 1)), ("all of these", (255, 44, 8, 16))]
+cases = [("1 user, 2 roles, 1 flow, 1 session", (1, 0, 1, 1, 1)), ("2 flows", (1, 0, 2, 1, 1)),
+         ("8 flows", (1, 0, 8, 1, 1)), ("16 sessions", (1, 0, 1, 16, 1)),
+         ("both products", (1, 0, 1, 1, 2)), ("255 users", (255, 0, 1, 1, 1)),
+         ("46 roles each", (1, 44, 1, 1, 1)), ("all of these", (255, 44, 8, 16, 2))]
 cost = {n: [] for n, _ in programs}
-for title, (u, r, f, s) in cases:
+for title, case in cases:
     path = os.path.join(tmp, "only")
-    count = reads(path, u, r, f, s, lines)
+    count = reads(path, *case, lines)
     with_reads, without = medians(path), medians(path + ".set-up")
     for n, _ in programs:
         cost[n].append("%s %.1f" % (title, (with_reads[n] - without[n]) / count * 1e9))

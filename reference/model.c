@@ -1,8 +1,10 @@
 /*
- * The linkage engine of document 01: reference model and baseline of speed.
+ * The linkage engine of document 01 with request K1: reference model and
+ * baseline of speed.
  *
  * Frames on standard input, one a line; one answer line each on standard
- * output.  Sentences in quotation marks are document 01's.
+ * output.  Sentences in quotation marks are document 01's, or K1's where that
+ * is said.
  *
  *     cc -O2 -o model model.c         (C11)
  *
@@ -23,6 +25,11 @@ enum {
     USERS = 256, ROLES = 64, DATABASES = 64, SESSIONS = 16, FLOWS = 8,
     LAST_VERSION = 65535
 };
+
+/* K1: "Two products on one directory. [...] Each has sixteen sessions of its
+ * own."  A product is named by the place of its session 0; session s of it has
+ * the place product + s. */
+enum { SERVER = 0, BANK = SESSIONS, PLACES = BANK + SESSIONS };
 
 typedef uint64_t set;
 
@@ -48,10 +55,11 @@ static struct {
     set forwards[DATABASES];    /* the databases that it forwards to */
     unsigned version[USERS];
     unsigned system;
-    bool flow_added;            /* "some flow has been added in any session" */
-    bool open[SESSIONS];
-    unsigned count[SESSIONS];   /* flows of the session */
-    struct flow flow[SESSIONS][FLOWS];
+    bool flow_added;            /* "some flow has been added in any session";
+                                 * K1: "the first flow of either product" */
+    bool open[PLACES];
+    unsigned count[PLACES];     /* flows of the session */
+    struct flow flow[PLACES][FLOWS];
 } engine;
 
 /* ------------------------------------------------- tables and versions --- */
@@ -133,12 +141,13 @@ static unsigned add_forwarding(unsigned from, unsigned to)
     return 0;
 }
 
-/* 06 */
-static unsigned open_session(unsigned s)
+/* 06 and 0b: K1's kinds "0b to 0f do for the term bank what 06 to 0a do for
+ * the server, field by field". */
+static unsigned open_session(unsigned product, unsigned s)
 {
     if (s >= SESSIONS)                      return 2;
-    if (engine.open[s])                     return 3;
-    engine.open[s] = true;
+    if (engine.open[product + s])           return 3;
+    engine.open[product + s] = true;
     return 0;
 }
 
@@ -199,38 +208,43 @@ static set parents_of(set deny)
     return roles;
 }
 
-/* The readers of each flow of the session, the flow of that root last. */
-static void readers_with(unsigned s, set root_reach, set readers[FLOWS])
+/* The readers of each flow of the session at that place, the flow of that root
+ * last. */
+static void readers_with(unsigned place, set root_reach, set readers[FLOWS])
 {
-    unsigned n = engine.count[s];
+    unsigned n = engine.count[place];
     for (unsigned i = 0; i < n; i++)
-        readers[i] = readers_of(engine.flow[s][i].reach);
+        readers[i] = readers_of(engine.flow[place][i].reach);
     readers[n] = readers_of(root_reach);
 }
 
-/* 07: "conflicting roles, with a flow of root dd counted in but not added" */
-static unsigned ask_conflicting(unsigned s, unsigned root, set *answer)
+/* 07 and 0c: "conflicting roles, with a flow of root dd counted in but not
+ * added" */
+static unsigned ask_conflicting(unsigned product, unsigned s, unsigned root, set *answer)
 {
     if (s >= SESSIONS || root >= DATABASES) return 2;
-    if (!engine.open[s])                    return 6;
-    if (engine.count[s] == FLOWS)           return 7;
+    unsigned place = product + s;
+    if (!engine.open[place])                return 6;
+    if (engine.count[place] == FLOWS)       return 7;
     set readers[FLOWS];
-    readers_with(s, reach_of(root), readers);
-    *answer = conflicting(readers, engine.count[s] + 1);
+    readers_with(place, reach_of(root), readers);
+    *answer = conflicting(readers, engine.count[place] + 1);
     return 0;
 }
 
-/* 08: "Adding a flow brings a root and a chosen set of roles, each conflicting
- * for the session with the new flow counted in." */
-static unsigned add_flow(unsigned s, unsigned root, set chosen, const struct flow **added)
+/* 08 and 0d: "Adding a flow brings a root and a chosen set of roles, each
+ * conflicting for the session with the new flow counted in." */
+static unsigned add_flow(unsigned product, unsigned s, unsigned root, set chosen,
+                         const struct flow **added)
 {
     if (s >= SESSIONS || root >= DATABASES) return 2;
-    if (!engine.open[s])                    return 6;
-    if (engine.count[s] == FLOWS)           return 7;
-    unsigned n = engine.count[s];
+    unsigned place = product + s;
+    if (!engine.open[place])                return 6;
+    if (engine.count[place] == FLOWS)       return 7;
+    unsigned n = engine.count[place];
     set reach = reach_of(root);
     set readers[FLOWS];
-    readers_with(s, reach, readers);
+    readers_with(place, reach, readers);
     if (chosen & ~conflicting(readers, n + 1)) return 8;
 
     /* "The flow's deny set is the previous flow's deny set (empty for flow 0)
@@ -238,47 +252,51 @@ static unsigned add_flow(unsigned s, unsigned root, set chosen, const struct flo
      * system version then), its deny set, and one role set for each flow up to
      * itself: the roles that may, at this addition, read a database in that
      * flow's reach and are a parent of some role in the deny set." */
-    struct flow *f = &engine.flow[s][n];
+    struct flow *f = &engine.flow[place][n];
     f->reach = reach;
-    f->deny = (n ? engine.flow[s][n - 1].deny : 0) | chosen;
+    f->deny = (n ? engine.flow[place][n - 1].deny : 0) | chosen;
     f->version = engine.system;
     set parents = parents_of(f->deny);
     for (unsigned i = 0; i <= n; i++)
         f->roles[i] = readers[i] & parents;
-    engine.count[s] = n + 1;
+    engine.count[place] = n + 1;
     engine.flow_added = true;
     *added = f;
     return 0;
 }
 
-/* 0a */
-static unsigned show_constraint(unsigned s, unsigned f, const struct flow **shown)
+/* 0a and 0f */
+static unsigned show_constraint(unsigned product, unsigned s, unsigned f,
+                                const struct flow **shown)
 {
     if (s >= SESSIONS || f >= FLOWS)        return 2;
-    if (!engine.open[s])                    return 6;
-    if (f >= engine.count[s])               return 10;
-    *shown = &engine.flow[s][f];
+    unsigned place = product + s;
+    if (!engine.open[place])                return 6;
+    if (f >= engine.count[place])           return 10;
+    *shown = &engine.flow[place][f];
     return 0;
 }
 
 /* ---------------------------------------------------- the verdict on a read --- */
 
-/* 09: bit n of rows is set when the read meets row n; the lowest one is the
- * answer.  Whether the "roles meet at least two of f's role sets" is counted
- * over all eight places; those past the flow's own number are empty. */
+/* 09 and 0e: bit n of rows is set when the read meets row n; the lowest one is
+ * the answer.  Whether the "roles meet at least two of f's role sets" is
+ * counted over all eight; those past the flow's own number are empty. */
 enum { GRANTED = 15 };
 
-static inline unsigned read_flow(unsigned user, unsigned s, unsigned f, unsigned db)
+static inline unsigned read_flow(unsigned product, unsigned user, unsigned s, unsigned f,
+                                 unsigned db)
 {
-    const struct flow *flow = &engine.flow[s % SESSIONS][f % FLOWS];
+    unsigned place = product + s % SESSIONS;
+    const struct flow *flow = &engine.flow[place][f % FLOWS];
     set held = engine.holds[user];
     const set *r = flow->roles;
     int met = meet(held, r[0]) + meet(held, r[1]) + meet(held, r[2]) + meet(held, r[3])
             + meet(held, r[4]) + meet(held, r[5]) + meet(held, r[6]) + meet(held, r[7]);
 
     bool above     = (s >= SESSIONS) | (f >= FLOWS) | (db >= DATABASES);
-    bool closed    = !engine.open[s % SESSIONS];
-    bool no_flow   = f >= engine.count[s % SESSIONS];
+    bool closed    = !engine.open[place];
+    bool no_flow   = f >= engine.count[place];
     bool unreached = !has(flow->reach, db % DATABASES);
     bool unread    = !meet(held, engine.readers[db % DATABASES]);
     bool changed   = engine.version[user] > flow->version;
@@ -374,11 +392,14 @@ static void fill_pairs(void)
     }
 }
 
-/* Digits in a line of each kind, the kind's own two among them. */
-enum { KINDS = 10, LONGEST = 22 };
-static const unsigned char length[KINDS + 1] = { 0, 6, 6, 6, 6, 6, 4, 6, 22, 10, 6 };
+/* Digits in a line of each kind, the kind's own two among them.  Kinds 06 to 0a
+ * are the server's; the term bank's like of each is the one five after it. */
+enum { KINDS = 15, LIKE = 5, LONGEST = 22 };
+static const unsigned char length[KINDS + 1] = {
+    0, 6, 6, 6, 6, 6, 4, 6, 22, 10, 6, 4, 6, 22, 10, 6
+};
 
-/* 01 to 06: "the system version, four digits" */
+/* 01 to 06 and 0b: "the system version, four digits" */
 static void answer_change(unsigned number)
 {
     begin(number);
@@ -387,37 +408,37 @@ static void answer_change(unsigned number)
     end_line();
 }
 
-/* 07: "the role set" */
-static void answer_query(unsigned s, unsigned root)
+/* 07 and 0c: "the role set" */
+static void answer_query(unsigned product, unsigned s, unsigned root)
 {
     set roles;
-    unsigned number = ask_conflicting(s, root, &roles);
+    unsigned number = ask_conflicting(product, s, root, &roles);
     begin(number);
     if (number == 0)
         put_number(roles, 16);
     end_line();
 }
 
-/* 08: "flow number, count of databases in the reach (1 to 64) in two digits
- * each, version" */
-static void answer_add(unsigned s, unsigned root, set chosen)
+/* 08 and 0d: "flow number, count of databases in the reach (1 to 64) in two
+ * digits each, version" */
+static void answer_add(unsigned product, unsigned s, unsigned root, set chosen)
 {
     const struct flow *f;
-    unsigned number = add_flow(s, root, chosen, &f);
+    unsigned number = add_flow(product, s, root, chosen, &f);
     begin(number);
     if (number == 0) {
-        put_number((set)(f - engine.flow[s]), 2);
+        put_number((set)(f - engine.flow[product + s]), 2);
         put_number((set)__builtin_popcountll(f->reach), 2);
         put_number(f->version, 4);
     }
     end_line();
 }
 
-/* 0a: "version, deny set, then the role sets from flow 0 on" */
-static void answer_show(unsigned s, unsigned f)
+/* 0a and 0f: "version, deny set, then the role sets from flow 0 on" */
+static void answer_show(unsigned product, unsigned s, unsigned f)
 {
     const struct flow *shown;
-    unsigned number = show_constraint(s, f, &shown);
+    unsigned number = show_constraint(product, s, f, &shown);
     begin(number);
     if (number == 0) {
         put_number(shown->version, 4);
@@ -431,23 +452,24 @@ static void answer_show(unsigned s, unsigned f)
 /* A line of the right length for its kind; x[] are its fields. */
 static void call(unsigned kind, const unsigned char *x)
 {
-    switch (kind) {
+    unsigned product = kind > KINDS - LIKE ? BANK : SERVER;
+    switch (product == BANK ? kind - LIKE : kind) {
     case 1: answer_change(assign_role(x[0], x[1]));         break;
     case 2: answer_change(withdraw_role(x[0], x[1]));       break;
     case 3: answer_change(permit_database(x[0], x[1]));     break;
     case 4: answer_change(revoke_database(x[0], x[1]));     break;
     case 5: answer_change(add_forwarding(x[0], x[1]));      break;
-    case 6: answer_change(open_session(x[0]));              break;
-    case 7: answer_query(x[0], x[1]);                       break;
+    case 6: answer_change(open_session(product, x[0]));     break;
+    case 7: answer_query(product, x[0], x[1]);              break;
     case 8: {
         set chosen = 0;
         for (unsigned i = 2; i < 10; i++)
             chosen = chosen << 8 | x[i];
-        answer_add(x[0], x[1], chosen);
+        answer_add(product, x[0], x[1], chosen);
         break;
     }
-    case 9: put_verdict(read_flow(x[0], x[1], x[2], x[3])); break;
-    case 10: answer_show(x[0], x[1]);                      break;
+    case 9: put_verdict(read_flow(product, x[0], x[1], x[2], x[3])); break;
+    case 10: answer_show(product, x[0], x[1]);              break;
     }
 }
 
@@ -482,11 +504,14 @@ static const unsigned char *frame(const unsigned char *p, const unsigned char *s
 static const unsigned char *lines(const unsigned char *p, const unsigned char *stop)
 {
     while (p < stop) {
-        /* The reads first: eleven bytes, 09 uu ss ff dd and the line feed. */
-        if (stop - p > 10 && p[10] == '\n' && take(p) == DIGITS + 9) {
+        /* The reads first: eleven bytes, 09 or 0e, uu ss ff dd and the line
+         * feed.  No branch tells the products apart: they come in any order. */
+        if (stop - p > 10 && p[10] == '\n') {
+            unsigned kind = take(p);
+            bool bank = kind == DIGITS + 9 + LIKE;
             unsigned u = take(p + 2), s = take(p + 4), f = take(p + 6), d = take(p + 8);
-            if (u & s & f & d & DIGITS) {
-                put_verdict(read_flow(u - DIGITS, s - DIGITS, f - DIGITS, d - DIGITS));
+            if (((kind == DIGITS + 9) | bank) & (u & s & f & d) / DIGITS) {
+                put_verdict(read_flow(bank * BANK, u - DIGITS, s - DIGITS, f - DIGITS, d - DIGITS));
                 p += 11;
                 continue;
             }

@@ -19,6 +19,7 @@ use borrow.Author.Tests.{lt-ltb, le-ltb, eq-eqb, le-leb, eqb-true, leb-true}
 use Rattle.sets.specs.Sets.{count}
 use Rattle.sets.proofs.Laws.{and-both, count-all}
 use Rattle.model.specs.declared.calls.Change.the-variants.{Assign, Withdraw, Permit, Revoke, Forward}
+use Rattle.model.specs.declared.calls.Product.the-variants.{Server, TermBank}
 use Rattle.model.specs.declared.calls.Ask.the-variants.{Open, Conflicting, Add, Show}
 use Rattle.model.specs.declared.calls.Call.{Call}
 use Rattle.model.specs.declared.calls.Call.the-variants.{Table, Session, Read, Unreadable}
@@ -29,7 +30,7 @@ use Rattle.protocol.proofs.Laws.{feedAt-here, feedAt-later, feed-there}
 use Rattle.decoding.specs.declared.read.Frame.{Frame}
 use Rattle.decoding.specs.Fields.{digitTable, highTable, lowTable, pairAt, pairsRight, pairsNumber, endedBy}
 use Rattle.decoding.specs.Frames.{isFrame, callBy, frameBy, nextBy, LineAt}
-use Rattle.decoding.proofs.Reading.{ended-right, ended-parts, begins, begun-parts, frame-by, unknown}
+use Rattle.decoding.proofs.Reading.{ended-right, ended-parts, begins, begun-parts, frame-by, by-kind, unknown}
 
 -- ---- bytes
 
@@ -186,28 +187,12 @@ module _ (s : List ℕ) (n : ℕ) (bytes : Bytes s) (within : n ≤ length s) (d
 
 -- ---- kinds
 
--- a kind up to 10 has an even number of digits behind it, and 0 alone has none
-kind-digits : (k : ℕ) → k < 11 → (2 * (restDigits k / 2) ≡ restDigits k) × (min k 1 ≤ restDigits k)
+-- a kind up to 15 has an even number of digits behind it, and 0 alone has none
+kind-digits : (k : ℕ) → k < 16 → (2 * (restDigits k / 2) ≡ restDigits k) × (min k 1 ≤ restDigits k)
 unfolding restDigits count
 kind-digits k h =
-    let t = and-both (eqb (2 * (restDigits k / 2)) (restDigits k)) _ (count-all 11 (λ j. eqb (2 * (restDigits j / 2)) (restDigits j) && leb (min j 1) (restDigits j)) (omega arith) k h) in
+    let t = and-both (eqb (2 * (restDigits k / 2)) (restDigits k)) _ (count-all 16 (λ j. eqb (2 * (restDigits j / 2)) (restDigits j) && leb (min j 1) (restDigits j)) (omega arith) k h) in
     (eqb-true _ _ (t .0), leb-true _ _ (t .1))
-
--- what holds of each number below n
-abbrev Each : (ℕ → Type 0) → ℕ → Type 0
-Each P zero = Unit
-Each P (suc n) = Each P n × P n
-
-each : (P : ℕ → Type 0) (n : ℕ) → Each P n → (k : ℕ) → k < n → P k
-each P zero all k h = absurd (not-suc-le-zero h)
-each P (suc n) all k h = go (decLt k n) (each P n (all .0) k)
-  where
-    go : Dec (k < n) → (k < n → P k) → P k
-    go (yes l) f = f l
-    go (no l) f = let e : n ≡ k = omega (arith, l) in rw e at (all .1)
-
-by-kind : (P : ℕ → Type 0) → P 0 → P 1 → P 2 → P 3 → P 4 → P 5 → P 6 → P 7 → P 8 → P 9 → P 10 → (k : ℕ) → k < 11 → P k
-by-kind P a b c d e f g h i j l = each P 11 (((((((((((tt, a), b), c), d), e), f), g), h), i), j), l)
 
 -- a call looks only at the fields that its kind has
 module _ (f g : ℕ → ℕ) (m n : ℕ) where
@@ -223,7 +208,7 @@ module _ (f g : ℕ → ℕ) (m n : ℕ) where
   with-set : (C : ℕ → ℕ → ℕ → Call) → ((i : ℕ) → 2 * i + 2 ≤ 20 → f i ≡ g i) → m ≡ n → C (f 0) (f 1) m ≡ C (g 0) (g 1) n
   with-set C p q = rw (p 0 (omega arith), p 1 (omega arith), q)
 
-  called-same : (k : ℕ) → k < 11 → ((i : ℕ) → 2 * i + 2 ≤ restDigits k → f i ≡ g i) → (restDigits k ≡ 20 → m ≡ n) → calledBy k f m ≡ calledBy k g n
+  called-same : (k : ℕ) → k < 16 → ((i : ℕ) → 2 * i + 2 ≤ restDigits k → f i ≡ g i) → (restDigits k ≡ 20 → m ≡ n) → calledBy k f m ≡ calledBy k g n
   unfolding restDigits calledBy
   called-same =
       by-kind (λ k. ((i : ℕ) → 2 * i + 2 ≤ restDigits k → f i ≡ g i) → (restDigits k ≡ 20 → m ≡ n) → calledBy k f m ≡ calledBy k g n)
@@ -233,17 +218,22 @@ module _ (f g : ℕ → ℕ) (m n : ℕ) where
       (λ p q. two (λ a b. Table (Permit a b)) p)
       (λ p q. two (λ a b. Table (Revoke a b)) p)
       (λ p q. two (λ a b. Table (Forward a b)) p)
-      (λ p q. one (λ a. Session a Open) p)
-      (λ p q. two (λ a b. Session a (Conflicting b)) p)
-      (λ p q. with-set (λ a b c. Session a (Add b c)) p (q refl))
-      (λ p q. four Read p)
-      (λ p q. two (λ a b. Session a (Show b)) p)
+      (λ p q. one (λ a. Session Server a Open) p)
+      (λ p q. two (λ a b. Session Server a (Conflicting b)) p)
+      (λ p q. with-set (λ a b c. Session Server a (Add b c)) p (q refl))
+      (λ p q. four (Read Server) p)
+      (λ p q. two (λ a b. Session Server a (Show b)) p)
+      (λ p q. one (λ a. Session TermBank a Open) p)
+      (λ p q. two (λ a b. Session TermBank a (Conflicting b)) p)
+      (λ p q. with-set (λ a b c. Session TermBank a (Add b c)) p (q refl))
+      (λ p q. four (Read TermBank) p)
+      (λ p q. two (λ a b. Session TermBank a (Show b)) p)
 
-known-kind : (k : ℕ) (f : ℕ → ℕ) (m : ℕ) → isFrame (calledBy k f m) ≡ true → (1 ≤ k) × (k < 11)
+known-kind : (k : ℕ) (f : ℕ → ℕ) (m : ℕ) → isFrame (calledBy k f m) ≡ true → (1 ≤ k) × (k < 16)
 unfolding isFrame
-known-kind k f m e = go (decLt k 1) (decLt 10 k)
+known-kind k f m e = go (decLt k 1) (decLt 15 k)
   where
-    go : Dec (k < 1) → Dec (10 < k) → (1 ≤ k) × (k < 11)
+    go : Dec (k < 1) → Dec (15 < k) → (1 ≤ k) × (k < 16)
     go (yes l) h = absurd (true≢false (sym e ∙ ap isFrame (unknown k f m (inl l))))
     go (no l) (yes h) = absurd (true≢false (sym e ∙ ap isFrame (unknown k f m (inr h))))
     go (no l) (no h) = (omega (arith, l), omega (arith, h))
@@ -254,7 +244,7 @@ record Framed (d : List ℕ) (k : ℕ) : Type 0 where
   pub long : 2 ≤ length d
   pub kind : allDigits (take 2 d) ≡ true
   pub is : number (take 2 d) ≡ k
-  pub known : k < 11
+  pub known : k < 16
   pub within : restDigits k < length (drop 2 d)
   pub feed : getD (drop 2 d) (restDigits k) 0 ≡ lineFeed
   pub digits : allDigits (take (restDigits k) (drop 2 d)) ≡ true
@@ -338,7 +328,7 @@ framed-begins d k b f e =
 record Whole (line : List ℕ) (k : ℕ) : Type 0 where
   pub all : allDigits line ≡ true
   pub size : length line ≡ 2 + restDigits k
-  pub known : k < 11
+  pub known : k < 16
 
 whole-frame : (line : List ℕ) → isFrame (callOf line) ≡ true → Whole line (number (take 2 line))
 unfolding callOf frame isFrame called
@@ -385,8 +375,8 @@ here-begins d m b l f e = let h = framed-here d m l f e in framed-begins d _ b (
 no-frame-call : (c : Call) → (isFrame c ≡ true → ⊥) → Unreadable ≡ c
 unfolding isFrame
 no-frame-call (Table c) e = absurd (e refl)
-no-frame-call (Session s a) e = absurd (e refl)
-no-frame-call (Read u s f d) e = absurd (e refl)
+no-frame-call (Session p s a) e = absurd (e refl)
+no-frame-call (Read p u s f d) e = absurd (e refl)
 no-frame-call Unreadable e = refl
 
 -- ---- the next line
@@ -401,17 +391,21 @@ pub next-right : (s : List ℕ) (at : ℕ) → Bytes s → LineAt s at (nextBy h
 unfolding nextBy
 next-right s at bytes =
     frame-by highTable lowTable d
-    (λ f. LineAt s at (cond (ltb 0 (f .digits)) (record { call = f .call; end = at + f .digits }) (record { call = Unreadable; end = at + feedAt d })))
+    (λ f. LineAt s at
+    (cond (ltb 0 (f .digits)) (record { call = f .call; end = at + f .digits; ended = true }) (record { call = Unreadable; end = at + feedAt d; ended = ltb (at + feedAt d) (length s) })))
     (λ e. record {
       place = refl;
+      ended = refl;
       call = λ l.
           let m : feedAt d < length d = omega (arith, length-drop at s) in
           no-frame-call _ (λ h. true≢false (sym (here-begins d (feedAt d) b m (feed-byte d m) h) ∙ e));
     })
     (λ e.
     let framed = framed-by d b e in
-    rw (lt-ltb 0 (2 + restDigits (pairAt highTable lowTable d 0)) (omega arith), ← framed-feed d _ framed)
-    (record { place = refl; call = λ l. framed-call d _ framed b ∙ ap (λ i. callOf (take i d)) (sym (framed-feed d _ framed)) }))
+    let feed = framed-feed d _ framed in
+    let inside : at + feedAt d < length s = omega (arith, framed .within, length-drop 2 d, length-drop at s) in
+    rw (lt-ltb 0 (2 + restDigits (pairAt highTable lowTable d 0)) (omega arith), ← feed)
+    (record { place = refl; ended = sym (lt-ltb (at + feedAt d) (length s) inside); call = λ l. framed-call d _ framed b ∙ ap (λ i. callOf (take i d)) (sym feed) }))
   where
     d : List ℕ
     d = drop at s

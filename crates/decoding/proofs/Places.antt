@@ -2,10 +2,12 @@
 -- Assumes nothing.
 use Prim.Native.Nat.{ℕ, suc, _+_, _-_, _≤_, _<_}
 use mathlib.Core.Path.{_≡_, refl, sym, _∙_}
+use mathlib.Core.Bool.{true, false}
 use mathlib.Core.List.{List, [], _∷_, _++_}
 use native.Mathlib.Nat.{add-zero}
 use native.Mathlib.Numerals.{add-one}
 use native.Mathlib.Omega.{arith}
+use lib.Dec.{ltb}
 use lib.ListN.{length, getD, take, drop, set, length-set, length-drop, drop-of-length-le}
 use lib.Seq.{take-all, take-suc, take-suc-set, drop-cons}
 use borrow.Author.Tests.{lt-ltb, le-ltb}
@@ -70,9 +72,9 @@ copied-all {line} {new} {i} g l k =
 
 -- ---- the next line, by any two tables
 
-pub next-past : (high low s : List ℕ) (at : ℕ) → length s < at → _≡_ {A = NextLine} (record { call = Unreadable; end = at }) (nextBy high low s at)
+pub next-past : (high low s : List ℕ) (at : ℕ) → length s < at → _≡_ {A = NextLine} (record { call = Unreadable; end = at; ended = false }) (nextBy high low s at)
 unfolding nextBy frameBy frameIf feedAt
-next-past high low s at h = let l : length s ≤ at = omega arith in rw (drop-of-length-le s {i = at} l, add-zero at)
+next-past high low s at h = let l : length s ≤ at = omega arith in rw (drop-of-length-le s {i = at} l, add-zero at, le-ltb at (length s) l)
 
 module _ (high low s : List ℕ) (at : ℕ) {f : Frame} (within : at ≤ length s) (read : f ≡ frameBy high low (take (length s - at) (drop at s))) where
   here : f ≡ frameBy high low (drop at s)
@@ -81,10 +83,10 @@ module _ (high low s : List ℕ) (at : ℕ) {f : Frame} (within : at ≤ length 
   pub next-within : at + f .digits ≤ length s
   next-within = omega (arith, rw (← here) at (frame-within high low (drop at s)), length-drop at s)
 
-  pub next-frame : 0 < f .digits → _≡_ {A = NextLine} (record { call = f .call; end = at + f .digits }) (nextBy high low s at)
+  pub next-frame : 0 < f .digits → _≡_ {A = NextLine} (record { call = f .call; end = at + f .digits; ended = true }) (nextBy high low s at)
   unfolding nextBy
   next-frame h = rw (← here, lt-ltb 0 (f .digits) h)
 
-  pub next-other : f .digits ≤ 0 → {e : ℕ} → e ≡ at + feedAt (drop at s) → _≡_ {A = NextLine} (record { call = Unreadable; end = e }) (nextBy high low s at)
+  pub next-other : f .digits ≤ 0 → {e : ℕ} → e ≡ at + feedAt (drop at s) → _≡_ {A = NextLine} (record { call = Unreadable; end = e; ended = ltb e (length s) }) (nextBy high low s at)
   unfolding nextBy
   next-other h p = rw (← here, le-ltb 0 (f .digits) h, p)

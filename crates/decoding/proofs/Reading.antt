@@ -3,9 +3,9 @@
 use Prim.Native.Nat.{ℕ, zero, suc, _+_, _-_, _*_, _/_, _^_, _≤_, _<_}
 use mathlib.Core.Path.{_≡_, refl, ap, sym, _∙_}
 use mathlib.Core.Bool.{Bool, true, false, cond, _&&_, and-true, and-false, and-assoc}
-use mathlib.Core.List.{List}
-use mathlib.Core.Logic.{_⊎_, ⊎-elim}
-use native.Mathlib.Nat.{add-zero, add-suc, add-assoc}
+use mathlib.Core.List.{List, [], _∷_}
+use mathlib.Core.Logic.{_⊎_, inl, inr, ⊎-elim}
+use native.Mathlib.Nat.{add-zero, add-suc, add-assoc, not-suc-le-zero}
 use native.Mathlib.Decide.{decLt}
 use native.Mathlib.Omega.{arith}
 use lib.Bits.{bitOr, or-lt, or-add-and, and-le-l, and-le-r}
@@ -13,17 +13,18 @@ use lib.Dec.{ltb, eqb, leb}
 use lib.ListN.{length, getD, take, drop, length-drop}
 use lib.Pow.{pow-add, pow-mono}
 use lib.Seq.{take-all, getD-drop}
+use types.Run.{OneOf}
 use borrow.Author.Tests.{lt-ltb, le-ltb, eq-eqb, ne-eqb, le-leb, lt-leb, ltb-true, leb-true, eqb-true}
 use Rattle.sets.proofs.Laws.{and-both}
+use Rattle.model.specs.declared.calls.Product.{Product}
+use Rattle.model.specs.declared.calls.Ask.the-variants.{Open, Conflicting, Add, Show}
 use Rattle.model.specs.declared.calls.Call.{Call}
-use Rattle.model.specs.declared.calls.Call.the-variants.{Unreadable}
+use Rattle.model.specs.declared.calls.Call.the-variants.{Session, Read, Unreadable}
 use Rattle.protocol.specs.Lines.{lineFeed, restDigits, calledBy}
-use Rattle.decoding.specs.declared.read.Pair.{Pair}
-use Rattle.decoding.specs.declared.read.Quad.{Quad}
+use Rattle.decoding.specs.declared.read.Fields.{Fields}
 use Rattle.decoding.specs.declared.read.Chosen.{Chosen}
-use Rattle.decoding.specs.declared.read.Addition.{Addition}
 use Rattle.decoding.specs.declared.read.Frame.{Frame}
-use Rattle.decoding.specs.Fields.{pairAt, pairsRight, pairsNumber, endedBy, oneField, twoFields, fourFields, chosenSet, addition}
+use Rattle.decoding.specs.Fields.{pairAt, pairsRight, pairsNumber, endedBy, fieldsOf, noFields, oneField, twoFields, fourFields, chosenSet, addition, fieldsBy, fieldIn, productOf}
 use Rattle.decoding.specs.Frames.{isFrame, frameIf, callBy, frameBy}
 
 -- a part of a list that runs to its end
@@ -173,7 +174,7 @@ module _ (high low s : List ℕ) {m : Chosen} (long : 20 < length s) (read : m �
   set-wrong h = pairs-split high low 2 8 s ∙ rw (sym set-test ∙ h) (and-false (pairsRight high low s 2))
 
   pub addition-read : {a b : ℕ} → getD s 20 0 ≡ lineFeed → a ≡ pairAt high low s 0 → b ≡ pairAt high low s 2 → bitOr a b < 256 → m .right ≡ true
-      → _≡_ {A = Addition} (record { right = true; a = a; b = b; set = m .set }) (addition high low s)
+      → fieldsOf 22 a b 0 0 (m .set) ≡ addition high low s
   unfolding addition
   addition-read {a} {b} f first second h t =
       let r : pairsRight high low s 10 ≡ true = pairs-split high low 2 8 s ∙ rw (two-test high low s first second ∙ lt-ltb (bitOr a b) 256 h, sym set-test ∙ t) in
@@ -222,37 +223,36 @@ frame-within high low s =
     frame-by high low s (λ f. f .digits ≤ length s) (λ e. omega arith)
     (λ e. let b = begun-parts high low s e in omega (arith, ended-parts high low (drop 2 s) _ (b .ended) .0, length-drop 2 s, b .long))
 
--- what it is where the kind is k and this is the rest
-abbrev kindFrame : List ℕ → List ℕ → List ℕ → ℕ → Frame
-kindFrame high low rest k =
-    let call : Call = calledBy k (λ i. pairAt high low rest (2 * i)) (pairsNumber high low (drop 4 rest) 8) in
-    frameIf (isFrame call && endedBy high low rest (restDigits k / 2)) call (2 + restDigits k)
-
-pub record Kind (high low line rest : List ℕ) (k : ℕ) : Type 0 where
-  pub says : frameBy high low line ≡ kindFrame high low rest k
-
-pub kind-read : (high low line : List ℕ) {kind k : ℕ} → 2 ≤ length line → kind ≡ pairAt high low line 0 → kind ≡ k → Kind high low line (take (length line - 2) (drop 2 line)) k
-unfolding frameBy callBy
-kind-read high low line h e f = record { says = rw (to-end 2 line h, le-leb 2 (length line) h, ← e, f) }
-
 pub frame-short : (high low line : List ℕ) → length line < 2 → none ≡ frameBy high low line
 unfolding frameBy frameIf
 frame-short high low line h = rw (lt-leb 2 (length line) h)
 
--- what the last arm of a `match` knows: none of the numbers from 1 on to n
-abbrev pub NoneOf : ℕ → ℕ → Type 0
-NoneOf k zero = Unit
-NoneOf k (suc n) = NoneOf k n × (k ≡ suc n → ⊥)
+-- ---- kinds
 
-pub past : (k n : ℕ) → (k ≡ 0 → ⊥) → NoneOf k n → n < k
-past k zero z w = omega (arith, z)
-past k (suc n) z w = omega (arith, past k n z (w .0), w .1)
+-- what holds of each number below n
+abbrev Each : (ℕ → Type 0) → ℕ → Type 0
+Each P zero = Unit
+Each P (suc n) = Each P n × P n
 
--- no kind is 0, or above 10
-pub unknown : (k : ℕ) (field : ℕ → ℕ) (set : ℕ) → (k < 1) ⊎ (10 < k) → calledBy k field set ≡ Unreadable
+each : (P : ℕ → Type 0) (n : ℕ) → Each P n → (k : ℕ) → k < n → P k
+each P zero all k h = absurd (not-suc-le-zero h)
+each P (suc n) all k h = go (decLt k n) (each P n (all .0) k)
+  where
+    go : Dec (k < n) → (k < n → P k) → P k
+    go (yes l) f = f l
+    go (no l) f = let e : n ≡ k = omega (arith, l) in rw e at (all .1)
+
+pub by-kind : (P : ℕ → Type 0) → P 0 → P 1 → P 2 → P 3 → P 4 → P 5 → P 6 → P 7 → P 8 → P 9 → P 10 → P 11 → P 12 → P 13 → P 14 → P 15 → (k : ℕ) → k < 16 → P k
+by-kind P a b c d e f g h i j l m n o p q = each P 16 ((((((((((((((((tt, a), b), c), d), e), f), g), h), i), j), l), m), n), o), p), q)
+
+-- no kind is 0, or above 15
+no-kind : (k : ℕ) → (k < 1) ⊎ (15 < k) → (j : ℕ) → (1 ≤ j) × (j ≤ 15) → eqb k j ≡ false
+no-kind k h j l = ne-eqb k j (λ e. ⊎-elim (λ w. omega arith) (λ w. omega arith) h)
+
+pub unknown : (k : ℕ) (field : ℕ → ℕ) (set : ℕ) → (k < 1) ⊎ (15 < k) → calledBy k field set ≡ Unreadable
 unfolding calledBy
 unknown k field set h =
-    let no : (j : ℕ) → (1 ≤ j) × (j ≤ 10) → eqb k j ≡ false = λ j l. ne-eqb k j (λ e. ⊎-elim (λ w. omega arith) (λ w. omega arith) h) in
+    let no : (j : ℕ) → (1 ≤ j) × (j ≤ 15) → eqb k j ≡ false = no-kind k h in
     rw (
       no 1 (omega arith),
       no 2 (omega arith),
@@ -264,43 +264,174 @@ unknown k field set h =
       no 8 (omega arith),
       no 9 (omega arith),
       no 10 (omega arith),
+      no 11 (omega arith),
+      no 12 (omega arith),
+      no 13 (omega arith),
+      no 14 (omega arith),
+      no 15 (omega arith),
     )
 
-module _ {high low line rest : List ℕ} {k : ℕ} (kind : Kind high low line rest k) where
-  pub no-arm : (k < 1) ⊎ (10 < k) → none ≡ frameBy high low line
-  unfolding frameIf isFrame
-  no-arm h = rw (kind .says, unknown k (λ i. pairAt high low rest (2 * i)) (pairsNumber high low (drop 4 rest) 8) h)
+-- and none of them has digits behind it
+pub no-digits : (k : ℕ) → (k < 1) ⊎ (15 < k) → restDigits k ≡ 0
+unfolding restDigits
+no-digits k h =
+    let no : (j : ℕ) → (1 ≤ j) × (j ≤ 15) → eqb k j ≡ false = no-kind k h in
+    let out : (leb 1 k && leb k 15) ≡ false = ⊎-elim (λ w. rw (lt-leb 1 k w)) (λ w. rw (lt-leb k 15 w) (and-false (leb 1 k))) h in
+    rw (no 6 (omega arith), no 11 (omega arith), no 8 (omega arith), no 13 (omega arith), no 9 (omega arith), no 14 (omega arith), out)
 
-  -- the fields as a reader answered them, made into a frame
-  arm : {R : Type 0} (right : R → Bool) (call : R → Call) (good bad : R) (n digits : ℕ) → right good ≡ true → right bad ≡ false
-      → kindFrame high low rest k ≡ frameIf (endedBy high low rest n) (call good) digits
-      → {r : R} → r ≡ cond (endedBy high low rest n) good bad → {f : Frame} → f ≡ frameIf (right r) (call r) digits → f ≡ frameBy high low line
+-- ---- what an arm of a `match` on the kind knows
+
+-- each of these kinds has n digits behind it
+unfoldable pub allHave : ℕ → List ℕ → Bool
+allHave n [] = true
+allHave n (k ∷ ks) = eqb (restDigits k) n && allHave n ks
+
+pub keyed-digits : (n : ℕ) (ks : List ℕ) (k : ℕ) → allHave n ks ≡ true → OneOf ks k → restDigits k ≡ n
+unfolding allHave
+keyed-digits n [] k t h = absurd h
+keyed-digits n (j ∷ []) k t h = rw h (eqb-true (restDigits j) n (and-both (eqb (restDigits j) n) _ t .0))
+keyed-digits n (j ∷ i ∷ ks) k t h =
+    let p = and-both (eqb (restDigits j) n) _ t in
+    ⊎-elim (λ e. rw e (eqb-true (restDigits j) n (p .0))) (λ l. keyed-digits n (i ∷ ks) k (p .1) l) h
+
+-- 01 to 05
+pub change-digits : (k : ℕ) → (k ≡ 0 → ⊥) → k < 6 → restDigits k ≡ 4
+unfolding restDigits
+change-digits k n h = each (λ j. (j ≡ 0 → ⊥) → restDigits j ≡ 4) 6 ((((((tt, λ z. absurd (z refl)), λ z. refl), λ z. refl), λ z. refl), λ z. refl), λ z. refl) k h n
+
+-- no number from 6 on to 15 is left
+pub past-shapes : (k : ℕ) → 6 ≤ k → (OneOf (6 ∷ 11 ∷ []) k → ⊥) → (OneOf (7 ∷ 10 ∷ 12 ∷ 15 ∷ []) k → ⊥) → (OneOf (9 ∷ 14 ∷ []) k → ⊥) → (OneOf (8 ∷ 13 ∷ []) k → ⊥) → 15 < k
+past-shapes k l one two four set =
+    let up : (j : ℕ) → (k ≡ j → ⊥) → j ≤ k → suc j ≤ k = λ j n m. omega (arith, n) in
+    let to9 : 9 ≤ k = up 8 (λ e. set (inl e)) (up 7 (λ e. two (inl e)) (up 6 (λ e. one (inl e)) l)) in
+    let to12 : 12 ≤ k = up 11 (λ e. one (inr e)) (up 10 (λ e. two (inr (inl e))) (up 9 (λ e. four (inl e)) to9)) in
+    up 15 (λ e. two (inr (inr (inr e)))) (up 14 (λ e. four (inr e)) (up 13 (λ e. set (inr e)) (up 12 (λ e. two (inr (inr (inl e)))) to12)))
+
+-- none of the numbers from 1 on to n is it
+abbrev pub NoneOf : ℕ → ℕ → Type 0
+NoneOf k zero = Unit
+NoneOf k (suc n) = NoneOf k n × (k ≡ suc n → ⊥)
+
+past : (k n : ℕ) → (k ≡ 0 → ⊥) → NoneOf k n → n < k
+past k zero z w = omega (arith, z)
+past k (suc n) z w = omega (arith, past k n z (w .0), w .1)
+
+-- the same where the kinds of the two products go in pairs
+pub past-products : (k : ℕ) → (k ≡ 0 → ⊥) → NoneOf k 5 → (OneOf (6 ∷ 11 ∷ []) k → ⊥) → (OneOf (7 ∷ 12 ∷ []) k → ⊥) → (OneOf (8 ∷ 13 ∷ []) k → ⊥) → (OneOf (9 ∷ 14 ∷ []) k → ⊥)
+    → (OneOf (10 ∷ 15 ∷ []) k → ⊥) → 15 < k
+past-products k z w a b c d e =
+    past k 15 z
+    ((((((((((w, λ h. a (inl h)), λ h. b (inl h)), λ h. c (inl h)), λ h. d (inl h)), λ h. e (inl h)), λ h. a (inr h)), λ h. b (inr h)), λ h. c (inr h)), λ h. d (inr h)), λ h. e (inr h))
+
+-- the call of one of two kinds, one for each product
+module _ (k : ℕ) {p : Product} (a b c d set : ℕ) (of : p ≡ productOf k) where
+  either : (call : Product → Call) (i j : ℕ) → call (productOf i) ≡ calledBy i (fieldIn a b c d) set → call (productOf j) ≡ calledBy j (fieldIn a b c d) set
+      → (k ≡ i) ⊎ (k ≡ j) → call p ≡ calledBy k (fieldIn a b c d) set
+  either call i j first second h = rw of (⊎-elim (λ e. rw e first) (λ e. rw e second) h)
+
+  pub open-called : OneOf (6 ∷ 11 ∷ []) k → Session p a Open ≡ calledBy k (fieldIn a b c d) set
+  unfolding productOf calledBy fieldIn
+  open-called = either (λ q. Session q a Open) 6 11 refl refl
+
+  pub conflicting-called : OneOf (7 ∷ 12 ∷ []) k → Session p a (Conflicting b) ≡ calledBy k (fieldIn a b c d) set
+  unfolding productOf calledBy fieldIn
+  conflicting-called = either (λ q. Session q a (Conflicting b)) 7 12 refl refl
+
+  pub add-called : OneOf (8 ∷ 13 ∷ []) k → Session p a (Add b set) ≡ calledBy k (fieldIn a b c d) set
+  unfolding productOf calledBy fieldIn
+  add-called = either (λ q. Session q a (Add b set)) 8 13 refl refl
+
+  pub read-called : OneOf (9 ∷ 14 ∷ []) k → Read p a b c d ≡ calledBy k (fieldIn a b c d) set
+  unfolding productOf calledBy fieldIn
+  read-called = either (λ q. Read q a b c d) 9 14 refl refl
+
+  pub show-called : OneOf (10 ∷ 15 ∷ []) k → Session p a (Show b) ≡ calledBy k (fieldIn a b c d) set
+  unfolding productOf calledBy fieldIn
+  show-called = either (λ q. Session q a (Show b)) 10 15 refl refl
+
+-- ---- a frame from the fields that were read
+
+-- what is made of the fields
+abbrev made : ℕ → Fields → Frame
+made k f = cond (eqb (f .digits) 0) none (some (calledBy k (fieldIn (f .a) (f .b) (f .c) (f .d)) (f .chosen)) (f .digits))
+
+-- what the frame is where the kind is k and this is the rest
+abbrev kindFrame : List ℕ → List ℕ → List ℕ → ℕ → Frame
+kindFrame high low rest k =
+    let call : Call = calledBy k (λ i. pairAt high low rest (2 * i)) (pairsNumber high low (drop 4 rest) 8) in
+    frameIf (isFrame call && endedBy high low rest (restDigits k / 2)) call (2 + restDigits k)
+
+module _ (high low rest : List ℕ) where
+  -- where the rest ends as it should, the call of the pairs that its kind has; else none
+  shape : (k n digits : ℕ) (good : Fields) (call : Call) → made k good ≡ some call digits
+      → made k (cond (endedBy high low rest n) good noFields) ≡ frameIf (endedBy high low rest n) call digits
   unfolding frameIf
-  arm right call good bad n digits all none is e f = f ∙ rw e (go (endedBy high low rest n)) ∙ sym is ∙ sym (kind .says)
+  shape k n digits good call e = go (endedBy high low rest n)
     where
-      go : (t : Bool) → frameIf (right (cond t good bad)) (call (cond t good bad)) digits ≡ frameIf t (call good) digits
-      go true = rw all
-      go false = rw none
+      go : (t : Bool) → made k (cond t good noFields) ≡ cond t (some call digits) none
+      go true = e
+      go false = refl
 
-  -- one, two and four fields, and two with a role set
-  pub one-arm : (C : ℕ → Call) → kindFrame high low rest k ≡ frameIf (endedBy high low rest 1) (C (pairAt high low rest 0)) 4
-      → {p : Pair} → p ≡ oneField high low rest → {f : Frame} → f ≡ frameIf (p .right) (C (p .a)) 4 → f ≡ frameBy high low line
+  one : (k : ℕ) (call : Call) → made k (fieldsOf 4 (pairAt high low rest 0) 0 0 0 0) ≡ some call 4 → made k (oneField high low rest) ≡ frameIf (endedBy high low rest 1) call 4
   unfolding oneField
-  one-arm C is = arm (λ p. p .right) (λ p. C (p .a)) _ _ 1 4 refl refl is
+  one k = shape k 1 4 (fieldsOf 4 (pairAt high low rest 0) 0 0 0 0)
 
-  pub two-arm : (C : ℕ → ℕ → Call) → kindFrame high low rest k ≡ frameIf (endedBy high low rest 2) (C (pairAt high low rest 0) (pairAt high low rest 2)) 6
-      → {p : Pair} → p ≡ twoFields high low rest → {f : Frame} → f ≡ frameIf (p .right) (C (p .a) (p .b)) 6 → f ≡ frameBy high low line
+  two : (k : ℕ) (call : Call) → made k (fieldsOf 6 (pairAt high low rest 0) (pairAt high low rest 2) 0 0 0) ≡ some call 6
+      → made k (twoFields high low rest) ≡ frameIf (endedBy high low rest 2) call 6
   unfolding twoFields
-  two-arm C is = arm (λ p. p .right) (λ p. C (p .a) (p .b)) _ _ 2 6 refl refl is
+  two k = shape k 2 6 (fieldsOf 6 (pairAt high low rest 0) (pairAt high low rest 2) 0 0 0)
 
-  pub four-arm : (C : ℕ → ℕ → ℕ → ℕ → Call)
-      → kindFrame high low rest k ≡ frameIf (endedBy high low rest 4) (C (pairAt high low rest 0) (pairAt high low rest 2) (pairAt high low rest 4) (pairAt high low rest 6)) 10
-      → {p : Quad} → p ≡ fourFields high low rest → {f : Frame} → f ≡ frameIf (p .right) (C (p .a) (p .b) (p .c) (p .d)) 10 → f ≡ frameBy high low line
+  four : (k : ℕ) (call : Call) → made k (fieldsOf 10 (pairAt high low rest 0) (pairAt high low rest 2) (pairAt high low rest 4) (pairAt high low rest 6) 0) ≡ some call 10
+      → made k (fourFields high low rest) ≡ frameIf (endedBy high low rest 4) call 10
   unfolding fourFields
-  four-arm C is = arm (λ p. p .right) (λ p. C (p .a) (p .b) (p .c) (p .d)) _ _ 4 10 refl refl is
+  four k = shape k 4 10 (fieldsOf 10 (pairAt high low rest 0) (pairAt high low rest 2) (pairAt high low rest 4) (pairAt high low rest 6) 0)
 
-  pub set-arm : (C : ℕ → ℕ → ℕ → Call)
-      → kindFrame high low rest k ≡ frameIf (endedBy high low rest 10) (C (pairAt high low rest 0) (pairAt high low rest 2) (pairsNumber high low (drop 4 rest) 8)) 22
-      → {p : Addition} → p ≡ addition high low rest → {f : Frame} → f ≡ frameIf (p .right) (C (p .a) (p .b) (p .set)) 22 → f ≡ frameBy high low line
+  with-set : (k : ℕ) (call : Call) → made k (fieldsOf 22 (pairAt high low rest 0) (pairAt high low rest 2) 0 0 (pairsNumber high low (drop 4 rest) 8)) ≡ some call 22
+      → made k (addition high low rest) ≡ frameIf (endedBy high low rest 10) call 22
   unfolding addition
-  set-arm C is = arm (λ p. p .right) (λ p. C (p .a) (p .b) (p .set)) _ _ 10 22 refl refl is
+  with-set k = shape k 10 22 (fieldsOf 22 (pairAt high low rest 0) (pairAt high low rest 2) 0 0 (pairsNumber high low (drop 4 rest) 8))
+
+  other : (k : ℕ) → (k < 1) ⊎ (15 < k) → made k (fieldsBy high low rest (restDigits k)) ≡ kindFrame high low rest k
+  unfolding fieldsBy isFrame frameIf
+  other k h = rw (no-digits k h, unknown k (λ i. pairAt high low rest (2 * i)) (pairsNumber high low (drop 4 rest) 8) h)
+
+  known : (k : ℕ) → k < 16 → made k (fieldsBy high low rest (restDigits k)) ≡ kindFrame high low rest k
+  unfolding fieldsBy restDigits calledBy fieldIn isFrame
+  known =
+      by-kind (λ k. made k (fieldsBy high low rest (restDigits k)) ≡ kindFrame high low rest k)
+      (other 0 (inl (omega arith)))
+      (two 1 _ refl)
+      (two 2 _ refl)
+      (two 3 _ refl)
+      (two 4 _ refl)
+      (two 5 _ refl)
+      (one 6 _ refl)
+      (two 7 _ refl)
+      (with-set 8 _ refl)
+      (four 9 _ refl)
+      (two 10 _ refl)
+      (one 11 _ refl)
+      (two 12 _ refl)
+      (with-set 13 _ refl)
+      (four 14 _ refl)
+      (two 15 _ refl)
+
+  of-kind : (k : ℕ) → made k (fieldsBy high low rest (restDigits k)) ≡ kindFrame high low rest k
+  of-kind k = go (decLt k 16)
+    where
+      go : Dec (k < 16) → made k (fieldsBy high low rest (restDigits k)) ≡ kindFrame high low rest k
+      go (yes l) = known k l
+      go (no l) = other k (inr (omega (arith, l)))
+
+-- the kind was read, and then the fields, by the kind
+module _ (high low line : List ℕ) {kind : ℕ} {f : Fields} (long : 2 ≤ length line) (first : kind ≡ pairAt high low line 0)
+    (read : f ≡ fieldsBy high low (take (length line - 2) (drop 2 line)) (restDigits kind)) where
+  frame-made : made kind f ≡ frameBy high low line
+  unfolding frameBy callBy
+  frame-made = rw (read, to-end 2 line long, le-leb 2 (length line) long, ← first) (of-kind high low (drop 2 line) kind)
+
+  pub frame-none : f .digits ≡ 0 → none ≡ frameBy high low line
+  frame-none h = rw (eq-eqb (f .digits) 0 h) at frame-made
+
+  pub frame-some : (f .digits ≡ 0 → ⊥) → {call : Call} → call ≡ calledBy kind (fieldIn (f .a) (f .b) (f .c) (f .d)) (f .chosen) → some call (f .digits) ≡ frameBy high low line
+  frame-some h e = rw e (rw (ne-eqb (f .digits) 0 h) at frame-made)

@@ -3,16 +3,16 @@
 -- Assumes nothing.
 use Prim.Native.Nat.{ℕ, zero, suc, _+_, _*_, _/_}
 use mathlib.Core.Bool.{Bool, true, false, cond, _&&_}
-use mathlib.Core.List.{List}
+use mathlib.Core.List.{List, [], _∷_}
 use lib.Dec.{eqb, ltb}
 use lib.ListN.{length, getD, set, drop, replicate}
+use Rattle.model.specs.declared.calls.Product.{Product}
+use Rattle.model.specs.declared.calls.Product.the-variants.{Server, TermBank}
 use Rattle.protocol.specs.Widths.{setDigits}
 use Rattle.protocol.specs.Digits.{glyph}
-use Rattle.protocol.specs.Lines.{lineFeed}
-use Rattle.decoding.specs.declared.read.Pair.{Pair}
-use Rattle.decoding.specs.declared.read.Quad.{Quad}
+use Rattle.protocol.specs.Lines.{lineFeed, fields}
+use Rattle.decoding.specs.declared.read.Fields.{Fields}
 use Rattle.decoding.specs.declared.read.Chosen.{Chosen}
-use Rattle.decoding.specs.declared.read.Addition.{Addition}
 
 -- ---- the tables of the digits
 
@@ -48,18 +48,22 @@ pairsNumber high low s (suc n) = pairsNumber high low s n * 256 + pairAt high lo
 unfoldable pub endedBy : List ℕ → List ℕ → List ℕ → ℕ → Bool
 endedBy high low s n = ltb (2 * n) (length s) && (eqb (getD s (2 * n) 0) lineFeed && pairsRight high low s n)
 
--- ---- fields: the pairs of a rest that ends as it should; else zeros, which are not right
+-- ---- fields: the pairs of a rest that ends as it should, and how many digits the frame has; else no digit
 
-unfoldable pub oneField : List ℕ → List ℕ → List ℕ → Pair
-oneField high low s = cond (endedBy high low s 1) (record { right = true; a = pairAt high low s 0; b = 0 }) (record { right = false; a = 0; b = 0 })
+abbrev pub fieldsOf : ℕ → ℕ → ℕ → ℕ → ℕ → ℕ → Fields
+fieldsOf digits a b c d chosen = record { digits = digits; a = a; b = b; c = c; d = d; chosen = chosen }
 
-unfoldable pub twoFields : List ℕ → List ℕ → List ℕ → Pair
-twoFields high low s = cond (endedBy high low s 2) (record { right = true; a = pairAt high low s 0; b = pairAt high low s 2 }) (record { right = false; a = 0; b = 0 })
+abbrev pub noFields : Fields
+noFields = fieldsOf 0 0 0 0 0 0
 
-unfoldable pub fourFields : List ℕ → List ℕ → List ℕ → Quad
-fourFields high low s =
-    cond (endedBy high low s 4) (record { right = true; a = pairAt high low s 0; b = pairAt high low s 2; c = pairAt high low s 4; d = pairAt high low s 6 })
-    (record { right = false; a = 0; b = 0; c = 0; d = 0 })
+unfoldable pub oneField : List ℕ → List ℕ → List ℕ → Fields
+oneField high low s = cond (endedBy high low s 1) (fieldsOf 4 (pairAt high low s 0) 0 0 0 0) noFields
+
+unfoldable pub twoFields : List ℕ → List ℕ → List ℕ → Fields
+twoFields high low s = cond (endedBy high low s 2) (fieldsOf 6 (pairAt high low s 0) (pairAt high low s 2) 0 0 0) noFields
+
+unfoldable pub fourFields : List ℕ → List ℕ → List ℕ → Fields
+fourFields high low s = cond (endedBy high low s 4) (fieldsOf 10 (pairAt high low s 0) (pairAt high low s 2) (pairAt high low s 4) (pairAt high low s 6) 0) noFields
 
 -- a role set has so many pairs
 abbrev pub setPairs : ℕ
@@ -69,7 +73,22 @@ unfoldable pub chosenSet : List ℕ → List ℕ → List ℕ → Chosen
 chosenSet high low s = cond (pairsRight high low s setPairs) (record { right = true; set = pairsNumber high low s setPairs }) (record { right = false; set = 0 })
 
 -- two fields and a role set
-unfoldable pub addition : List ℕ → List ℕ → List ℕ → Addition
+unfoldable pub addition : List ℕ → List ℕ → List ℕ → Fields
 addition high low s =
-    cond (endedBy high low s (2 + setPairs)) (record { right = true; a = pairAt high low s 0; b = pairAt high low s 2; set = pairsNumber high low (drop 4 s) setPairs })
-    (record { right = false; a = 0; b = 0; set = 0 })
+    cond (endedBy high low s (2 + setPairs)) (fieldsOf (6 + setDigits) (pairAt high low s 0) (pairAt high low s 2) 0 0 (pairsNumber high low (drop 4 s) setPairs)) noFields
+
+-- the fields that so many digits are; no kind has any other number of them
+unfoldable pub fieldsBy : List ℕ → List ℕ → List ℕ → ℕ → Fields
+fieldsBy high low s n =
+    cond (eqb n (fields 1)) (oneField high low s)
+    (cond (eqb n (fields 2)) (twoFields high low s)
+    (cond (eqb n (fields 4)) (fourFields high low s)
+    (cond (eqb n (fields 2 + setDigits)) (addition high low s) noFields)))
+
+-- field i of four
+unfoldable pub fieldIn : ℕ → ℕ → ℕ → ℕ → ℕ → ℕ
+fieldIn a b c d i = getD (a ∷ b ∷ c ∷ d ∷ []) i 0
+
+-- the product of a kind from 06 on to 0f: the server's kinds stand before the term bank's
+unfoldable pub productOf : ℕ → Product
+productOf kind = cond (ltb kind 0x0b) Server TermBank

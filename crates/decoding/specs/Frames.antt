@@ -16,8 +16,8 @@ use Rattle.decoding.specs.Fields.{pairAt, pairsNumber, endedBy, setPairs
 
 unfoldable pub isFrame : Call → Bool
 isFrame (Table c) = true
-isFrame (Session s a) = true
-isFrame (Read u s f d) = true
+isFrame (Session p s a) = true
+isFrame (Read p u s f d) = true
 isFrame Unreadable = false
 
 -- a frame of this call and so many digits, or none
@@ -34,13 +34,15 @@ frameBy high low s =
     let n : ℕ = restDigits (pairAt high low s 0) in
     frameIf (leb 2 (length s) && (isFrame (callBy high low s) && endedBy high low (drop 2 s) (n / 2))) (callBy high low s) (2 + n)
 
--- the line from `at` on: the frame there, or, where there is none, what stands before the next line feed or the input's end
+-- the line from `at` on: the frame there, or, where there is none, what stands before the next line feed or the input's end; and whether it has a line feed
 unfoldable pub nextBy : List ℕ → List ℕ → List ℕ → ℕ → NextLine
 nextBy high low s at =
     let f : Frame = frameBy high low (drop at s) in
-    cond (ltb 0 (f .digits)) (record { call = f .call; end = at + f .digits }) (record { call = Unreadable; end = at + feedAt (drop at s) })
+    let end : ℕ = at + feedAt (drop at s) in
+    cond (ltb 0 (f .digits)) (record { call = f .call; end = at + f .digits; ended = true }) (record { call = Unreadable; end = end; ended = ltb end (length s) })
 
--- by the tables of the digits that is the line up to the next line feed, or to the input's end, and its call where it has a line feed
+-- by the tables of the digits that is the line up to the next line feed, or to the input's end, whether it has a line feed, and its call where it has one
 pub record LineAt (s : List ℕ) (at : ℕ) (r : NextLine) : Type 0 where
   pub place : r .end ≡ at + feedAt (drop at s)
+  pub ended : r .ended ≡ ltb (r .end) (length s)
   pub call : r .end < length s → r .call ≡ callOf (take (feedAt (drop at s)) (drop at s))

@@ -13,10 +13,13 @@ ghost use Rattle.protocol.specs.Lines.{lineFeed};
 ghost use Rattle.protocol.specs.Run.{feedAt};
 ghost use Rattle.decoding.specs.Frames.{nextBy};
 
-// A line's call, and the place of its line feed, or the input's end where it has none.
+// A line's call, the place of its line feed, or the input's end where it has none, and whether it has
+// one. Of a frame that is a constant: so nothing stands between the match on its kind and a caller's
+// match on its call, and the compiler joins the two.
 pub struct NextLine {
     pub call: Call,
     pub end: usize,
+    pub ended: bool,
 }
 
 // The place of the first line feed from a place on, or the end where there is none.
@@ -46,6 +49,7 @@ pub fn next_line<'a>(
         return NextLine {
             call: Call::Unreadable,
             end: at,
+            ended: false,
         };
     }
     let f = read::decode(high, low, &s[at..]);
@@ -55,11 +59,14 @@ pub fn next_line<'a>(
         return NextLine {
             call,
             end: at + digits,
+            ended: true,
         };
     }
+    let end = find_feed(s, at);
     NextLine {
         call: Call::Unreadable,
-        end: find_feed(s, at),
+        end,
+        ended: end < s.len(),
     }
 }
 

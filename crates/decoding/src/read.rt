@@ -5,14 +5,15 @@ use super::lines;
 use model::Ask;
 use model::Call;
 use model::Change;
+use model::Product;
 use protocol::KEPT;
 use protocol::SET_DIGITS;
 ghost use mathlib.Core.Path.{_≡_};
 ghost use Prim.Native.Nat.{_+_, _≤_};
 ghost use lib.ListN.{length};
-ghost use Rattle.protocol.specs.Lines.{callOf};
-ghost use Rattle.decoding.specs.Fields.{pairAt, oneField, twoFields, fourFields, chosenSet, addition};
-ghost use Rattle.decoding.specs.Frames.{frameIf, frameBy};
+ghost use Rattle.protocol.specs.Lines.{restDigits, calledBy, callOf};
+ghost use Rattle.decoding.specs.Fields.{pairAt, oneField, twoFields, fourFields, chosenSet, addition, fieldsBy, fieldIn, productOf};
+ghost use Rattle.decoding.specs.Frames.{frameBy};
 
 // How many digits an addition's fields have, its whole frame, and its fields with a line feed.
 const ADDITION: usize = 2 * 2 + SET_DIGITS;
@@ -33,33 +34,24 @@ const NO_FRAME: Frame = Frame {
     digits: 0,
 };
 
-// The fields of a frame, and whether they are right: all are digits, and a line feed follows.
-struct Pair {
-    right: bool,
-    a: usize,
-    b: usize,
-}
-
-const NO_PAIR: Pair = Pair {
-    right: false,
-    a: 0,
-    b: 0,
-};
-
-struct Quad {
-    right: bool,
+// The fields of a frame, zero where its kind has none, and how many digits it has with its kind. No
+// digit where they are not right: one is not of digits, or no line feed follows.
+struct Fields {
+    digits: usize,
     a: usize,
     b: usize,
     c: usize,
     d: usize,
+    chosen: u64,
 }
 
-const NO_QUAD: Quad = Quad {
-    right: false,
+const NO_FIELDS: Fields = Fields {
+    digits: 0,
     a: 0,
     b: 0,
     c: 0,
     d: 0,
+    chosen: 0,
 };
 
 struct Chosen {
@@ -83,65 +75,76 @@ fn two<'a>(high: &'a [u16; BYTES], low: &'a [u16; BYTES], s: &'a [u8], at: usize
     both(high[s[at] as usize], low[s[at + 1] as usize])
 }
 
-fn one_field<'a>(high: &'a [u16; BYTES], low: &'a [u16; BYTES], s: &'a [u8]) -> Pair
+fn one_field<'a>(high: &'a [u16; BYTES], low: &'a [u16; BYTES], s: &'a [u8]) -> Fields
     ensures { λ r. ⌜ r ≡ oneField (now (high .entry)) (now (low .entry)) (now (s .entry)) ⌝ }
 {
     if s.len() < 3 {
-        return NO_PAIR;
+        return NO_FIELDS;
     }
     if s[2] != 10 {
-        return NO_PAIR;
+        return NO_FIELDS;
     }
     let a = two(high, low, s, 0);
     if 256 <= a {
-        return NO_PAIR;
+        return NO_FIELDS;
     }
-    Pair {
-        right: true,
+    Fields {
+        digits: 4,
         a,
         b: 0,
+        c: 0,
+        d: 0,
+        chosen: 0,
     }
 }
 
-fn two_fields<'a>(high: &'a [u16; BYTES], low: &'a [u16; BYTES], s: &'a [u8]) -> Pair
+fn two_fields<'a>(high: &'a [u16; BYTES], low: &'a [u16; BYTES], s: &'a [u8]) -> Fields
     ensures { λ r. ⌜ r ≡ twoFields (now (high .entry)) (now (low .entry)) (now (s .entry)) ⌝ }
 {
     if s.len() < 5 {
-        return NO_PAIR;
+        return NO_FIELDS;
     }
     if s[4] != 10 {
-        return NO_PAIR;
+        return NO_FIELDS;
     }
     let a = two(high, low, s, 0);
     let b = two(high, low, s, 2);
     if 256 <= a | b {
-        return NO_PAIR;
+        return NO_FIELDS;
     }
-    Pair { right: true, a, b }
+    Fields {
+        digits: 6,
+        a,
+        b,
+        c: 0,
+        d: 0,
+        chosen: 0,
+    }
 }
 
-fn four_fields<'a>(high: &'a [u16; BYTES], low: &'a [u16; BYTES], s: &'a [u8]) -> Quad
+fn four_fields<'a>(high: &'a [u16; BYTES], low: &'a [u16; BYTES], s: &'a [u8]) -> Fields
     ensures { λ r. ⌜ r ≡ fourFields (now (high .entry)) (now (low .entry)) (now (s .entry)) ⌝ }
 {
     if s.len() < 9 {
-        return NO_QUAD;
+        return NO_FIELDS;
     }
     if s[8] != 10 {
-        return NO_QUAD;
+        return NO_FIELDS;
     }
     let a = two(high, low, s, 0);
     let b = two(high, low, s, 2);
     let c = two(high, low, s, 4);
     let d = two(high, low, s, 6);
     if 256 <= a | b | c | d {
-        return NO_QUAD;
+        return NO_FIELDS;
     }
-    Quad {
-        right: true,
+    Fields {
+        digits: 10,
         a,
         b,
         c,
         d,
+        chosen: 0,
     }
 }
 
@@ -166,59 +169,117 @@ fn sixteen<'a>(high: &'a [u16; BYTES], low: &'a [u16; BYTES], s: &'a [u8]) -> Ch
     Chosen { right: true, set }
 }
 
-struct Addition {
-    right: bool,
-    a: usize,
-    b: usize,
-    set: u64,
-}
-
-const NO_ADDITION: Addition = Addition {
-    right: false,
-    a: 0,
-    b: 0,
-    set: 0,
-};
-
 // Two fields and a role set.
-fn fields_and_set<'a>(high: &'a [u16; BYTES], low: &'a [u16; BYTES], s: &'a [u8]) -> Addition
+fn fields_and_set<'a>(high: &'a [u16; BYTES], low: &'a [u16; BYTES], s: &'a [u8]) -> Fields
     ensures { λ r. ⌜ r ≡ addition (now (high .entry)) (now (low .entry)) (now (s .entry)) ⌝ }
 {
     if s.len() < ADDITION_LINE {
-        return NO_ADDITION;
+        return NO_FIELDS;
     }
     if s[ADDITION] != 10 {
-        return NO_ADDITION;
+        return NO_FIELDS;
     }
     let a = two(high, low, s, 0);
     let b = two(high, low, s, 2);
     if 256 <= a | b {
-        return NO_ADDITION;
+        return NO_FIELDS;
     }
     let m = sixteen(high, low, &s[4..]);
     if !m.right {
-        return NO_ADDITION;
+        return NO_FIELDS;
     }
-    Addition {
-        right: true,
+    Fields {
+        digits: ADDITION_FRAME,
         a,
         b,
-        set: m.set,
+        c: 0,
+        d: 0,
+        chosen: m.set,
     }
 }
 
-// A frame of this call and so many digits, where its fields are right.
-fn framed(right: bool, call: Call, digits: usize) -> Frame
-    ensures { λ r. ⌜ r ≡ frameIf right call digits ⌝ }
+// The fields of a frame of this kind, of whose rest the input is. Where the kind is not of digits, it
+// falls among the unknown ones. The kinds of the two products share an arm: they come in any order, and
+// a branch that tells them apart costs more, where it is mispredicted, than the read.
+fn fields_of<'a>(high: &'a [u16; BYTES], low: &'a [u16; BYTES], s: &'a [u8], kind: u64) -> Fields
+    ensures { λ r. ⌜ r ≡ fieldsBy (now (high .entry)) (now (low .entry)) (now (s .entry)) (restDigits kind) ⌝ }
 {
-    if right {
-        return Frame { call, digits };
+    match kind {
+        6 | 11 => one_field(high, low, s),
+        1 | 2 | 3 | 4 | 5 | 7 | 10 | 12 | 15 => two_fields(high, low, s),
+        9 | 14 => four_fields(high, low, s),
+        8 | 13 => fields_and_set(high, low, s),
+        0 | 16..=u64::MAX => NO_FIELDS,
     }
-    NO_FRAME
 }
 
-// The frame that an input begins with. Where the kind is not of digits, it falls among the unknown
-// ones.
+// Calls by their parts.
+fn permit(role: usize, database: usize) -> Call
+    ensures { λ r. ⌜ r ≡ Call.Table (Change.Permit role database) ⌝ }
+{
+    Call::Table(Change::Permit { role, database })
+}
+
+fn revoke(role: usize, database: usize) -> Call
+    ensures { λ r. ⌜ r ≡ Call.Table (Change.Revoke role database) ⌝ }
+{
+    Call::Table(Change::Revoke { role, database })
+}
+
+fn asked(product: Product, session: usize, ask: Ask) -> Call
+    ensures { λ r. ⌜ r ≡ Call.Session product session ask ⌝ }
+{
+    Call::Session {
+        product,
+        session,
+        ask,
+    }
+}
+
+fn read(product: Product, user: usize, session: usize, flow: usize, database: usize) -> Call
+    ensures { λ r. ⌜ r ≡ Call.Read product user session flow database ⌝ }
+{
+    Call::Read {
+        product,
+        user,
+        session,
+        flow,
+        database,
+    }
+}
+
+// The product that the calls of a kind are for, among the kinds that have one.
+fn product_of(kind: u64) -> Product
+    ensures { λ r. ⌜ r ≡ productOf kind ⌝ }
+{
+    if kind < 11 {
+        Product::Server
+    } else {
+        Product::TermBank
+    }
+}
+
+// The call of a kind with these fields. As in `fields_of`, the kinds of the two products share an arm.
+fn call_of(kind: u64, a: usize, b: usize, c: usize, d: usize, chosen: u64) -> Call
+    ensures { λ r. ⌜ r ≡ calledBy kind (fieldIn a b c d) chosen ⌝ }
+{
+    let product = product_of(kind);
+    match kind {
+        1 => Call::Table(Change::Assign { user: a, role: b }),
+        2 => Call::Table(Change::Withdraw { user: a, role: b }),
+        3 => permit(a, b),
+        4 => revoke(a, b),
+        5 => Call::Table(Change::Forward { from: a, to: b }),
+        6 | 11 => asked(product, a, Ask::Open),
+        7 | 12 => asked(product, a, Ask::Conflicting { root: b }),
+        8 | 13 => asked(product, a, Ask::Add { root: b, chosen }),
+        9 | 14 => read(product, a, b, c, d),
+        10 | 15 => asked(product, a, Ask::Show { flow: b }),
+        0 | 16..=u64::MAX => Call::Unreadable,
+    }
+}
+
+// The frame that an input begins with.
 pub(crate) fn decode<'a>(high: &'a [u16; BYTES], low: &'a [u16; BYTES], line: &'a [u8]) -> Frame
     ensures { λ r. ⌜ r ≡ frameBy (now (high .entry)) (now (low .entry)) (now (line .entry)) ⌝ }
 {
@@ -226,124 +287,14 @@ pub(crate) fn decode<'a>(high: &'a [u16; BYTES], low: &'a [u16; BYTES], line: &'
         return NO_FRAME;
     }
     let kind = two(high, low, line, 0) as u64;
-    let rest = &line[2..];
-    match kind {
-        1 => {
-            let assigned = two_fields(high, low, rest);
-            framed(
-                assigned.right,
-                Call::Table(Change::Assign {
-                    user: assigned.a,
-                    role: assigned.b,
-                }),
-                6,
-            )
-        }
-        2 => {
-            let withdrawn = two_fields(high, low, rest);
-            framed(
-                withdrawn.right,
-                Call::Table(Change::Withdraw {
-                    user: withdrawn.a,
-                    role: withdrawn.b,
-                }),
-                6,
-            )
-        }
-        3 => {
-            let permitted = two_fields(high, low, rest);
-            framed(
-                permitted.right,
-                Call::Table(Change::Permit {
-                    role: permitted.a,
-                    database: permitted.b,
-                }),
-                6,
-            )
-        }
-        4 => {
-            let revoked = two_fields(high, low, rest);
-            framed(
-                revoked.right,
-                Call::Table(Change::Revoke {
-                    role: revoked.a,
-                    database: revoked.b,
-                }),
-                6,
-            )
-        }
-        5 => {
-            let forwarded = two_fields(high, low, rest);
-            framed(
-                forwarded.right,
-                Call::Table(Change::Forward {
-                    from: forwarded.a,
-                    to: forwarded.b,
-                }),
-                6,
-            )
-        }
-        6 => {
-            let opened = one_field(high, low, rest);
-            framed(
-                opened.right,
-                Call::Session {
-                    session: opened.a,
-                    ask: Ask::Open,
-                },
-                4,
-            )
-        }
-        7 => {
-            let asked = two_fields(high, low, rest);
-            framed(
-                asked.right,
-                Call::Session {
-                    session: asked.a,
-                    ask: Ask::Conflicting { root: asked.b },
-                },
-                6,
-            )
-        }
-        8 => {
-            let added = fields_and_set(high, low, rest);
-            framed(
-                added.right,
-                Call::Session {
-                    session: added.a,
-                    ask: Ask::Add {
-                        root: added.b,
-                        chosen: added.set,
-                    },
-                },
-                ADDITION_FRAME,
-            )
-        }
-        9 => {
-            let read = four_fields(high, low, rest);
-            framed(
-                read.right,
-                Call::Read {
-                    user: read.a,
-                    session: read.b,
-                    flow: read.c,
-                    database: read.d,
-                },
-                10,
-            )
-        }
-        10 => {
-            let shown = two_fields(high, low, rest);
-            framed(
-                shown.right,
-                Call::Session {
-                    session: shown.a,
-                    ask: Ask::Show { flow: shown.b },
-                },
-                6,
-            )
-        }
-        0 | 11..=u64::MAX => NO_FRAME,
+    let f = fields_of(high, low, &line[2..], kind);
+    let digits = f.digits;
+    if digits == 0 {
+        return NO_FRAME;
+    }
+    Frame {
+        call: call_of(kind, f.a, f.b, f.c, f.d, f.chosen),
+        digits,
     }
 }
 

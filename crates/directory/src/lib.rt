@@ -1,7 +1,6 @@
 // The calls that change the tables. Each is checked, carried out in place on lent arrays and answered
 // in one function, which promises what the call's definition in `model` says.
 use model::Answer;
-use model::Change;
 use model::Engine;
 use model::Refusal;
 use model::Version;
@@ -13,7 +12,7 @@ ghost use Prim.Native.Nat.{ℕ};
 ghost use Rattle.rows.specs.Rows.{there};
 ghost use Rattle.tables.specs.Tables.{userCount, heldBy};
 ghost use Rattle.model.specs.State.{tablesOf, directoryOf, anyFlow, given};
-ghost use Rattle.model.specs.Calls.{done, spent, toHolders, assign, withdraw, permit, revoke, forward, change};
+ghost use Rattle.model.specs.Calls.{done, spent, toHolders, assign, withdraw, permit, revoke, forward};
 
 // 01: user u gets role r and a new version.
 pub fn assign(
@@ -166,12 +165,12 @@ pub fn revoke<'a>(
     Answer::Version(*version)
 }
 
-// Whether any session has a flow.
-fn any_flow(counts: &[usize; Engine::SESSIONS]) -> bool
+// Whether any session of either product has a flow.
+fn any_flow(counts: &[usize; Engine::ALL_SESSIONS]) -> bool
     ensures { λ b. ⌜ b ≡ anyFlow (now (counts .entry)) ⌝ }
 {
     let mut s = 0;
-    while s < Engine::SESSIONS {
+    while s < Engine::ALL_SESSIONS {
         if 0 < counts[s] {
             return true;
         }
@@ -180,11 +179,12 @@ fn any_flow(counts: &[usize; Engine::SESSIONS]) -> bool
     false
 }
 
-// 05: database d forwards to database e; `counts` tells how many flows each session has.
+// 05: database d forwards to database e; `counts` tells how many flows each session of either product
+// has.
 pub fn forward<'a>(
     forwards: &mut [u64; Engine::DATABASES],
     version: Version,
-    counts: &[usize; Engine::SESSIONS],
+    counts: &[usize; Engine::ALL_SESSIONS],
     d: usize,
     e: usize,
 ) -> Answer
@@ -204,39 +204,4 @@ pub fn forward<'a>(
     }
     lent::enter(forwards, d, e);
     Answer::Version(version)
-}
-
-// Any change of the tables.
-pub fn change<'a>(
-    roles: &mut [u64; Engine::USERS],
-    readers: &mut [u64; Engine::DATABASES],
-    forwards: &mut [u64; Engine::DATABASES],
-    versions: &mut [Version; Engine::USERS],
-    version: &mut Version,
-    counts: &[usize; Engine::SESSIONS],
-    c: Change,
-) -> Answer
-    ensures { λ a. ⌜ done a (directoryOf (tablesOf (now (roles .exit)) (now (readers .exit)) (now (forwards .exit))) (now (versions .exit)) (now (version .exit))) ≡ change (directoryOf (tablesOf (now (roles .entry)) (now (readers .entry)) (now (forwards .entry))) (now (versions .entry)) (now (version .entry))) (now (counts .entry)) c ⌝ }
-{
-    match c {
-        Change::Assign { user, role } => assign(roles, versions, version, user, role),
-        Change::Withdraw { user, role } => withdraw(roles, *version, user, role),
-        Change::Permit { role, database } => permit(
-            roles,
-            readers,
-            versions,
-            version,
-            role,
-            database,
-        ),
-        Change::Revoke { role, database } => revoke(
-            roles,
-            readers,
-            versions,
-            version,
-            role,
-            database,
-        ),
-        Change::Forward { from, to } => forward(forwards, *version, counts, from, to),
-    }
 }

@@ -21,8 +21,8 @@ use Rattle.model.specs.declared.Constraint.{Constraint}
 use Rattle.model.specs.declared.Sessions.{Sessions}
 use Rattle.model.specs.declared.calls.Answer.{Answer}
 use Rattle.model.specs.declared.calls.Answer.the-variants.{Version, Roles, Flow, Granted, Constraint as Answer·Constraint, Refused}
-use Rattle.model.specs.Limits.{sessionCount, flowCount}
-use Rattle.model.specs.State.{placeCount, filled, place, setPlace, rolesetAt}
+use Rattle.model.specs.Limits.{flowCount}
+use Rattle.model.specs.State.{allSessions, placeCount, filled, place, setPlace, rolesetAt}
 use Rattle.model.specs.Calls.{returned, verdictOf, constraintAt}
 use Rattle.model.proofs.Laws.{getD-filled}
 use Rattle.protocol.specs.Widths.{versionDigits, setDigits, longest}
@@ -161,17 +161,17 @@ wrote-line {z = z} {k = k} a c v e two rest l = rw (← e) (wrote-both two (wrot
 
 -- ---- the flow that an answer shows
 
-pub shown-here : (a : Answer) (s f : ℕ) → a ≡ Answer·Constraint s f → s < sessionCount → f < flowCount → (s * flowCount + f ≡ shownPlace a) × (s * flowCount + f < placeCount)
+pub shown-here : (a : Answer) (s f : ℕ) → a ≡ Answer·Constraint s f → s < allSessions → f < flowCount → (s * flowCount + f ≡ shownPlace a) × (s * flowCount + f < placeCount)
 unfolding shownPlace place
-shown-here a s f e l m = (rw (e, lt-ltb s sessionCount l, lt-ltb f flowCount m), omega arith)
+shown-here a s f e l m = (rw (e, lt-ltb s allSessions l, lt-ltb f flowCount m), omega arith)
 
-pub shown-session : (a : Answer) (s f : ℕ) → a ≡ Answer·Constraint s f → sessionCount ≤ s → (0 ≡ shownPlace a) × (0 < placeCount)
+pub shown-session : (a : Answer) (s f : ℕ) → a ≡ Answer·Constraint s f → allSessions ≤ s → (0 ≡ shownPlace a) × (0 < placeCount)
 unfolding shownPlace
-shown-session a s f e l = (rw (e, le-ltb s sessionCount l), omega arith)
+shown-session a s f e l = (rw (e, le-ltb s allSessions l), omega arith)
 
-pub shown-flow : (a : Answer) (s f : ℕ) → a ≡ Answer·Constraint s f → s < sessionCount → flowCount ≤ f → (0 ≡ shownPlace a) × (0 < placeCount)
+pub shown-flow : (a : Answer) (s f : ℕ) → a ≡ Answer·Constraint s f → s < allSessions → flowCount ≤ f → (0 ≡ shownPlace a) × (0 < placeCount)
 unfolding shownPlace
-shown-flow a s f e l m = (rw (e, lt-ltb s sessionCount l, le-ltb f flowCount m), omega arith)
+shown-flow a s f e l m = (rw (e, lt-ltb s allSessions l, le-ltb f flowCount m), omega arith)
 
 -- an answer that shows none, by the tags that the code's test leaves
 none-shown : (a : Answer) → OneOf (0 ∷ 1 ∷ 2 ∷ 3 ∷ 5 ∷ []) (tagOf the-type a) → (0 ≡ shownPlace a) × (0 ≡ shownSets a) × (true ≡ hasPlace a)
@@ -190,13 +190,13 @@ shown-nowhere a h = (none-shown a h .0, omega arith)
 pub place-none : (a : Answer) → OneOf (0 ∷ 1 ∷ 2 ∷ 3 ∷ 5 ∷ []) (tagOf the-type a) → true ≡ hasPlace a
 place-none a h = none-shown a h .2
 
-pub place-above : (a : Answer) (s f : ℕ) → a ≡ Answer·Constraint s f → sessionCount ≤ s → false ≡ hasPlace a
+pub place-above : (a : Answer) (s f : ℕ) → a ≡ Answer·Constraint s f → allSessions ≤ s → false ≡ hasPlace a
 unfolding hasPlace
-place-above a s f e l = rw (e, le-ltb s sessionCount l)
+place-above a s f e l = rw (e, le-ltb s allSessions l)
 
-pub place-below : (a : Answer) (s f : ℕ) → a ≡ Answer·Constraint s f → s < sessionCount → ltb f flowCount ≡ hasPlace a
+pub place-below : (a : Answer) (s f : ℕ) → a ≡ Answer·Constraint s f → s < allSessions → ltb f flowCount ≡ hasPlace a
 unfolding hasPlace
-place-below a s f e l = rw (e, lt-ltb s sessionCount l)
+place-below a s f e l = rw (e, lt-ltb s allSessions l)
 
 -- whether it shows no more role sets than there are
 pub writable-sets : (a : Answer) (s f : ℕ) → a ≡ Answer·Constraint s f → ltb f flowCount ≡ leb (shownSets a) flowCount
@@ -286,7 +286,7 @@ line-shown S (Roles m) p = refl
 line-shown S (Flow n k v) p = refl
 line-shown S Granted p = refl
 line-shown S (Answer·Constraint s f) p =
-    let q = and-both (ltb s sessionCount) (ltb f flowCount) p in
+    let q = and-both (ltb s allSessions) (ltb f flowCount) p in
     let few : f < flowCount = ltb-true f flowCount (q .1) in
     rw (q .0, q .1, roleSets-same (suc f) (take flowCount (drop (place s f * flowCount) (S .rolesets))) (constraintAt S s f .roles) (λ i l. part-sets S s f i (omega arith)))
 line-shown S (Refused why) p = refl
@@ -305,7 +305,7 @@ place-few (Version v) p = omega arith
 place-few (Roles m) p = omega arith
 place-few (Flow n k v) p = omega arith
 place-few Granted p = omega arith
-place-few (Answer·Constraint s f) p = ltb-true f flowCount (and-both (ltb s sessionCount) (ltb f flowCount) p .1)
+place-few (Answer·Constraint s f) p = ltb-true f flowCount (and-both (ltb s allSessions) (ltb f flowCount) p .1)
 place-few (Refused why) p = omega arith
 
 pub puts-answer : (S : Sessions) (a : Answer) {old new : List ℕ} {at next : ℕ} (k : ℕ) → roomAt old at ≡ true → hasPlace a ≡ true → k ≡ shownPlace a

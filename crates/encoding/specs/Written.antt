@@ -9,8 +9,8 @@ use lib.ListN.{length, take, drop}
 use Rattle.model.specs.declared.Constraint.{Constraint}
 use Rattle.model.specs.declared.calls.Answer.{Answer}
 use Rattle.model.specs.declared.calls.Answer.the-variants.{Version, Roles, Flow, Granted, Constraint as Answer·Constraint, Refused}
-use Rattle.model.specs.Limits.{sessionCount, flowCount}
-use Rattle.model.specs.State.{place}
+use Rattle.model.specs.Limits.{flowCount}
+use Rattle.model.specs.State.{allSessions, place}
 use Rattle.protocol.specs.Widths.{longest}
 use Rattle.protocol.specs.Lines.{lineFeed, shownSets, lineOf}
 use Rattle.encoding.specs.declared.Line.{Line}
@@ -36,13 +36,13 @@ pub record Puts (can : Bool) (old new : List ℕ) (at next : ℕ) (bytes : List 
 unfoldable pub roomAt : List ℕ → ℕ → Bool
 roomAt out at = leb (at + longest) (length out)
 
--- an answer shows no constraint, or that of a flow that has a place
+-- an answer shows no constraint, or that of a flow that has a place; the session has its number among those of both products
 unfoldable pub hasPlace : Answer → Bool
 hasPlace (Version v) = true
 hasPlace (Roles m) = true
 hasPlace (Flow n k v) = true
 hasPlace Granted = true
-hasPlace (Answer·Constraint s f) = ltb s sessionCount && ltb f flowCount
+hasPlace (Answer·Constraint s f) = ltb s allSessions && ltb f flowCount
 hasPlace (Refused why) = true
 
 -- the place of the flow that an answer shows; 0 where it shows none
@@ -51,7 +51,7 @@ shownPlace (Version v) = 0
 shownPlace (Roles m) = 0
 shownPlace (Flow n k v) = 0
 shownPlace Granted = 0
-shownPlace (Answer·Constraint s f) = cond (ltb s sessionCount && ltb f flowCount) (place s f) 0
+shownPlace (Answer·Constraint s f) = cond (ltb s allSessions && ltb f flowCount) (place s f) 0
 shownPlace (Refused why) = 0
 
 -- a constraint of these parts

@@ -217,12 +217,13 @@ pub fn write_number(n: u64, out: &mut [u8], at: usize) -> usize
     end + 1
 }
 
-// Whether the answer shows no constraint, or that of a flow that has a place.
+// Whether the answer shows no constraint, or that of a flow that has a place. Its session has its number
+// among those of both products.
 fn has_place(a: Answer) -> bool
     ensures { λ b. ⌜ b ≡ hasPlace a ⌝ }
 {
     if let Answer::Constraint { session, flow } = a {
-        if Engine::SESSIONS <= session {
+        if Engine::ALL_SESSIONS <= session {
             return false;
         }
         return flow < Engine::FLOWS;
@@ -236,7 +237,7 @@ fn shown_place(a: Answer) -> usize
     ensures { λ r. ⌜ r < placeCount ⌝ }
 {
     if let Answer::Constraint { session, flow } = a {
-        if session < Engine::SESSIONS {
+        if session < Engine::ALL_SESSIONS {
             if flow < Engine::FLOWS {
                 return session * Engine::FLOWS + flow;
             }

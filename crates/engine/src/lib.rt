@@ -8,18 +8,20 @@ pub use model::Changed;
 pub use model::Constraint;
 pub use model::Directory;
 pub use model::Engine;
+pub use model::Product;
 pub use model::Refusal;
 pub use model::Sessions;
 pub use model::Shown;
 pub use model::Verdict;
 pub use model::Version;
+pub use step::session_at;
 pub use step::step;
 use tables::Tables;
 ghost use mathlib.Core.Path.{_≡_};
 ghost use Prim.Native.Nat.{_<_};
 ghost use lib.ListN.{replicate};
-ghost use Rattle.model.specs.Limits.{sessionCount, flowCount};
-ghost use Rattle.model.specs.State.{fresh, filled, rolesetAt};
+ghost use Rattle.model.specs.Limits.{flowCount};
+ghost use Rattle.model.specs.State.{allSessions, fresh, filled, rolesetAt};
 ghost use Rattle.model.specs.Calls.{verdictOf, answer, after, verdict, constraintAt, shownBy};
 
 // An engine with empty tables and no open session.
@@ -34,7 +36,7 @@ pub fn fresh() -> Engine
     };
     let sessions = Sessions {
         opened: 0,
-        counts: [0; Engine::SESSIONS],
+        counts: [0; Engine::ALL_SESSIONS],
         roots: [0; Engine::PLACES],
         reaches: [0; Engine::PLACES],
         versions: [0; Engine::PLACES],
@@ -157,12 +159,13 @@ pub fn forward(e: Engine, from: usize, to: usize) -> Changed
 }
 
 // 06
-pub fn open_session(e: Engine, s: usize) -> Changed
-    ensures { λ x. ⌜ (x .answer ≡ answer e (Call.Session s Ask.Open)) × (x .engine ≡ after e (Call.Session s Ask.Open)) ⌝ }
+pub fn open_session(e: Engine, product: Product, s: usize) -> Changed
+    ensures { λ x. ⌜ (x .answer ≡ answer e (Call.Session product s Ask.Open)) × (x .engine ≡ after e (Call.Session product s Ask.Open)) ⌝ }
 {
     taken(
         e,
         Call::Session {
+            product,
             session: s,
             ask: Ask::Open,
         },
@@ -170,8 +173,8 @@ pub fn open_session(e: Engine, s: usize) -> Changed
 }
 
 // 07
-pub fn conflicting(e: Engine, s: usize, root: usize) -> Answer
-    ensures { λ a. ⌜ a ≡ answer e (Call.Session s (Ask.Conflicting root)) ⌝ }
+pub fn conflicting(e: Engine, product: Product, s: usize, root: usize) -> Answer
+    ensures { λ a. ⌜ a ≡ answer e (Call.Session product s (Ask.Conflicting root)) ⌝ }
 {
     let d = e.directory;
     let t = d.tables;
@@ -183,18 +186,19 @@ pub fn conflicting(e: Engine, s: usize, root: usize) -> Answer
         kept.opened,
         &kept.counts,
         &kept.reaches,
-        s,
+        session_at(product, s),
         root,
     )
 }
 
 // 08
-pub fn add_flow(e: Engine, s: usize, root: usize, chosen: u64) -> Changed
-    ensures { λ x. ⌜ (x .answer ≡ answer e (Call.Session s (Ask.Add root chosen))) × (x .engine ≡ after e (Call.Session s (Ask.Add root chosen))) ⌝ }
+pub fn add_flow(e: Engine, product: Product, s: usize, root: usize, chosen: u64) -> Changed
+    ensures { λ x. ⌜ (x .answer ≡ answer e (Call.Session product s (Ask.Add root chosen))) × (x .engine ≡ after e (Call.Session product s (Ask.Add root chosen))) ⌝ }
 {
     taken(
         e,
         Call::Session {
+            product,
             session: s,
             ask: Ask::Add { root, chosen },
         },
@@ -222,9 +226,10 @@ fn verdict_of(a: Answer) -> Verdict
     }
 }
 
-// The role sets of the constraint of flow f of session s.
+// The role sets of the constraint of flow f of session s, which has its number among those of both
+// products.
 fn sets_at(rolesets: &[u64; Engine::ROLE_SETS], s: usize, f: usize) -> [u64; Engine::FLOWS]
-    requires { ⌜ s < sessionCount ⌝ }
+    requires { ⌜ s < allSessions ⌝ }
     requires { ⌜ f < flowCount ⌝ }
     ensures { λ l. ⌜ l ≡ filled 0 (rolesetAt (now (rolesets .entry)) s f) flowCount (replicate flowCount 0) ⌝ }
 {
@@ -237,9 +242,9 @@ fn sets_at(rolesets: &[u64; Engine::ROLE_SETS], s: usize, f: usize) -> [u64; Eng
     roles
 }
 
-// The constraint of flow f of session s.
+// The constraint of flow f of that session.
 fn constraint_at(kept: Sessions, s: usize, f: usize) -> Constraint
-    requires { ⌜ s < sessionCount ⌝ }
+    requires { ⌜ s < allSessions ⌝ }
     requires { ⌜ f < flowCount ⌝ }
     ensures { λ c. ⌜ c ≡ constraintAt kept s f ⌝ }
 {
@@ -253,13 +258,14 @@ fn constraint_at(kept: Sessions, s: usize, f: usize) -> Constraint
 }
 
 // 0a
-pub fn show(e: Engine, s: usize, f: usize) -> Shown
-    ensures { λ x. ⌜ x ≡ shownBy e s f ⌝ }
+pub fn show(e: Engine, product: Product, s: usize, f: usize) -> Shown
+    ensures { λ x. ⌜ x ≡ shownBy e product s f ⌝ }
 {
     let kept = e.sessions;
-    let answer = sessions::show(kept.opened, &kept.counts, s, f);
+    let number = session_at(product, s);
+    let answer = sessions::show(kept.opened, &kept.counts, number, f);
     let constraint = match verdict_of(answer) {
-        Verdict::Granted => constraint_at(kept, s, f),
+        Verdict::Granted => constraint_at(kept, number, f),
         Verdict::Refused(_) => {
             Constraint {
                 version: 0,
@@ -272,8 +278,8 @@ pub fn show(e: Engine, s: usize, f: usize) -> Shown
 }
 
 // 09
-pub fn read(e: Engine, u: usize, s: usize, f: usize, d: usize) -> Verdict
-    ensures { λ v. ⌜ v ≡ verdict e (Call.Read u s f d) ⌝ }
+pub fn read(e: Engine, product: Product, u: usize, s: usize, f: usize, d: usize) -> Verdict
+    ensures { λ v. ⌜ v ≡ verdict e (Call.Read product u s f d) ⌝ }
 {
     let directory = e.directory;
     let t = directory.tables;
@@ -289,7 +295,7 @@ pub fn read(e: Engine, u: usize, s: usize, f: usize, d: usize) -> Verdict
         &kept.denies,
         &kept.rolesets,
         u,
-        s,
+        session_at(product, s),
         f,
         d,
     )

@@ -10,13 +10,15 @@ use borrow.Author.Tests.{lt-ltb, le-leb}
 use Rattle.model.specs.declared.Sessions.{Sessions}
 use Rattle.model.specs.declared.Engine.{Engine}
 use Rattle.model.specs.declared.calls.Ask.the-variants.{Open, Conflicting, Add, Show}
+use Rattle.model.specs.declared.calls.Product.{Product}
 use Rattle.model.specs.declared.calls.Call.{Call}
 use Rattle.model.specs.declared.calls.Call.the-variants.{Table, Session, Read, Unreadable}
 use Rattle.model.specs.declared.calls.Verdict.{Verdict}
 use Rattle.model.specs.declared.calls.Verdict.the-variants.{Granted as Verdict·Granted, Refused as Verdict·Refused}
 use Rattle.model.specs.declared.calls.Answer.{Answer}
 use Rattle.model.specs.declared.calls.Answer.the-variants.{Version, Roles, Flow, Granted, Constraint as Answer·Constraint, Refused}
-use Rattle.model.specs.Limits.{sessionCount, flowCount}
+use Rattle.model.specs.Limits.{flowCount}
+use Rattle.model.specs.State.{allSessions, sessionAt}
 use Rattle.model.specs.Calls.{Done, done, returned, verdictOf, answerOf, read, change, ask, step, answer, verdict, after}
 use Rattle.model.proofs.Seen.{demand1}
 use Rattle.protocol.specs.Widths.{fieldDigits, longest}
@@ -36,7 +38,7 @@ has-place (Version v) p = refl
 has-place (Roles m) p = refl
 has-place (Flow n k v) p = refl
 has-place Granted p = refl
-has-place (Answer·Constraint s f) p = rw (lt-ltb s sessionCount (p .0), lt-ltb f flowCount (p .1))
+has-place (Answer·Constraint s f) p = rw (lt-ltb s allSessions (p .0), lt-ltb f flowCount (p .1))
 has-place (Refused why) p = refl
 
 has-room : (out : List ℕ) (at : ℕ) → at + longest ≤ length out → roomAt out at ≡ true
@@ -55,17 +57,17 @@ unfolding lineOf values answerOf verdictOf shownIn
 number-line S Verdict·Granted = refl
 number-line S (Verdict·Refused why) = refl
 
-read-line : (e : Engine) (c : Call) (u s f d n : ℕ) → c ≡ Read u s f d → n ≡ returned (read (e .directory) (e .sessions) u s f d) → hex fieldDigits n ++ (lineFeed ∷ []) ≡ reply e c
+read-line : (e : Engine) (c : Call) (p : Product) (u s t f d n : ℕ) → c ≡ Read p u s f d → t ≡ sessionAt p s → n ≡ returned (read (e .directory) (e .sessions) u t f d) → hex fieldDigits n ++ (lineFeed ∷ []) ≡ reply e c
 unfolding reply answer step
-read-line e c u s f d n q p = rw (q, p) (number-line (e .sessions) (read (e .directory) (e .sessions) u s f d))
+read-line e c p u s t f d n q i h = rw (q, h, i) (number-line (e .sessions) (read (e .directory) (e .sessions) u (sessionAt p s) f d))
 
-pub read-wrote : (e : Engine) (c : Call) (u s f d n : ℕ) → c ≡ Read u s f d → n ≡ returned (read (e .directory) (e .sessions) u s f d) → {old new : List ℕ} {at next : ℕ} → at + longest ≤ length old
+pub read-wrote : (e : Engine) (c : Call) (p : Product) (u s t f d n : ℕ) → c ≡ Read p u s f d → t ≡ sessionAt p s → n ≡ returned (read (e .directory) (e .sessions) u t f d) → {old new : List ℕ} {at next : ℕ} → at + longest ≤ length old
     → Puts (roomAt old at) old new at next (hex fieldDigits n ++ (lineFeed ∷ [])) → Wrote old new at next (reply e c)
-read-wrote e c u s f d n q p {old} {new} {at} l = put-reply e c l (has-room old at l) (read-line e c u s f d n q p)
+read-wrote e c p u s t f d n q i h {old} {new} {at} l = put-reply e c l (has-room old at l) (read-line e c p u s t f d n q i h)
 
-pub read-after : (e : Engine) (c : Call) (u s f d : ℕ) → c ≡ Read u s f d → e ≡ after e c
+pub read-after : (e : Engine) (c : Call) (p : Product) (u s f d : ℕ) → c ≡ Read p u s f d → e ≡ after e c
 unfolding after step
-read-after e c u s f d q = rw q
+read-after e c p u s f d q = rw q
 
 -- ---- any call
 
@@ -73,19 +75,19 @@ read-after e c u s f d q = rw q
 shown-after : (e : Engine) (c : Call) → shownIn (after e c .sessions) (answer e c) ≡ shownIn (e .sessions) (answer e c)
 unfolding after step change ask shownIn
 shown-after e (Table c) = refl
-shown-after e (Session s Open) = go (verdict e (Session s Open)) refl
+shown-after e (Session p s Open) = go (verdict e (Session p s Open)) refl
   where
-    go : (v : Verdict) → verdict e (Session s Open) ≡ v → shownIn (after e (Session s Open) .sessions) (answer e (Session s Open)) ≡ shownIn (e .sessions) (answer e (Session s Open))
-    go Verdict·Granted h = rw (demand1 e (Session s Open) .told h) refl
-    go (Verdict·Refused why) h = rw (demand1 e (Session s Open) .refused why h .0) refl
-shown-after e (Session s (Conflicting root)) = refl
-shown-after e (Session s (Add root chosen)) = go (verdict e (Session s (Add root chosen))) refl
+    go : (v : Verdict) → verdict e (Session p s Open) ≡ v → shownIn (after e (Session p s Open) .sessions) (answer e (Session p s Open)) ≡ shownIn (e .sessions) (answer e (Session p s Open))
+    go Verdict·Granted h = rw (demand1 e (Session p s Open) .told h) refl
+    go (Verdict·Refused why) h = rw (demand1 e (Session p s Open) .refused why h .0) refl
+shown-after e (Session p s (Conflicting root)) = refl
+shown-after e (Session p s (Add root chosen)) = go (verdict e (Session p s (Add root chosen))) refl
   where
-    go : (v : Verdict) → verdict e (Session s (Add root chosen)) ≡ v → shownIn (after e (Session s (Add root chosen)) .sessions) (answer e (Session s (Add root chosen))) ≡ shownIn (e .sessions) (answer e (Session s (Add root chosen)))
-    go Verdict·Granted h = rw (demand1 e (Session s (Add root chosen)) .told h) refl
-    go (Verdict·Refused why) h = rw (demand1 e (Session s (Add root chosen)) .refused why h .0) refl
-shown-after e (Session s (Show f)) = refl
-shown-after e (Read u s f d) = refl
+    go : (v : Verdict) → verdict e (Session p s (Add root chosen)) ≡ v → shownIn (after e (Session p s (Add root chosen)) .sessions) (answer e (Session p s (Add root chosen))) ≡ shownIn (e .sessions) (answer e (Session p s (Add root chosen)))
+    go Verdict·Granted h = rw (demand1 e (Session p s (Add root chosen)) .told h) refl
+    go (Verdict·Refused why) h = rw (demand1 e (Session p s (Add root chosen)) .refused why h .0) refl
+shown-after e (Session p s (Show f)) = refl
+shown-after e (Read p u s f d) = refl
 shown-after e Unreadable = refl
 
 module _ (e e′ : Engine) (c : Call) (a : Answer) (h : done a e′ ≡ step e c) where

@@ -15,8 +15,7 @@ use Rattle.model.specs.declared.Engine.{Engine}
 use Rattle.model.specs.declared.calls.Call.{Call}
 use Rattle.tables.specs.Tables.{userCount, databaseCount}
 use Rattle.tables.specs.Tables.{fresh as emptyTables}
-use Rattle.model.specs.Limits.{sessionCount}
-use Rattle.model.specs.State.{placeCount, roleSetCount}
+use Rattle.model.specs.State.{allSessions, placeCount, roleSetCount}
 use Rattle.model.specs.State.{tablesOf, directoryOf, sessionsOf, engineOf, fresh}
 use Rattle.model.specs.Calls.{numberOf, returned, verdictOf, step, answer, after}
 use Rattle.protocol.specs.Widths.{longest}
@@ -113,7 +112,7 @@ room-enough input room l =
 abbrev zeros : Engine
 zeros =
     engineOf (directoryOf (tablesOf (replicate userCount 0) (replicate databaseCount 0) (replicate databaseCount 0)) (replicate userCount 0) 0)
-    (sessionsOf 0 (replicate sessionCount 0) (replicate placeCount 0) (replicate placeCount 0) (replicate placeCount 0) (replicate placeCount 0) (replicate roleSetCount 0))
+    (sessionsOf 0 (replicate allSessions 0) (replicate placeCount 0) (replicate placeCount 0) (replicate placeCount 0) (replicate placeCount 0) (replicate roleSetCount 0))
 
 is-fresh : zeros ≡ fresh
 unfolding fresh emptyTables

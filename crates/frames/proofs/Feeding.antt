@@ -2,10 +2,12 @@
 -- Assumes nothing.
 use Prim.Native.Nat.{ℕ, _+_, _-_, _≤_, _<_}
 use mathlib.Core.Path.{_≡_, refl, sym, ap, _∙_}
+use mathlib.Core.Bool.{true, false}
 use mathlib.Core.List.{List, [], _++_, append-nil}
 use mathlib.Core.Logic.{_⊎_, inl, inr, ⊎-elim}
 use native.Mathlib.Omega.{arith}
 use lib.ListN.{length, take, drop, length-drop}
+use borrow.Author.Tests.{ltb-true, ltb-false}
 use Rattle.model.specs.declared.Engine.{Engine}
 use Rattle.model.specs.declared.calls.Call.{Call}
 use Rattle.model.specs.Calls.{after}
@@ -24,6 +26,10 @@ use Rattle.frames.specs.Stream.{Feeds}
 -- by the tables of the digits the next line is what it says
 pub line-read : {s high low : List ℕ} {at : ℕ} {r : NextLine} → high ≡ highTable → low ≡ lowTable → Bytes s → r ≡ nextBy high low s at → LineAt s at r
 line-read {s} {high} {low} {at} h l b e = rw (e, h, l) (next-right s at b)
+
+-- a line that has its line feed ends inside the input
+pub line-inside : {s : List ℕ} {at : ℕ} {r : NextLine} → LineAt s at r → r .ended ≡ true → r .end < length s
+line-inside {s} {at} {r} n t = ltb-true (r .end) (length s) (sym (n .ended) ∙ t)
 
 -- the bytes are the answers so far
 pub record Feeding (input out₀ : List ℕ) (e₀ : Engine) (out : List ℕ) (e : Engine) (at written : ℕ) : Type 0 where
@@ -50,9 +56,10 @@ module _ (input out₀ : List ℕ) (e₀ : Engine) (out : List ℕ) (e : Engine)
   written-fits = omega (arith, out-long, g .put .room, g .put .place)
 
   -- one line more is answered
-  pub feeding-step : (r : NextLine) (out′ : List ℕ) (e′ : Engine) (written′ : ℕ) → LineAt input at r → r .end < length input → longest ≤ length out - written
+  pub feeding-step : (r : NextLine) (out′ : List ℕ) (e′ : Engine) (written′ : ℕ) → LineAt input at r → r .ended ≡ true → longest ≤ length out - written
       → e′ ≡ after e (r .call) → Wrote out out′ written written′ (reply e (r .call)) → Feeding input out₀ e₀ out′ e′ (r .end + 1) written′
-  feeding-step r out′ e′ written′ n l room p w =
+  feeding-step r out′ e′ written′ n t room p w =
+      let l : r .end < length input = line-inside n t in
       let c : Call = callOf (take (feedAt (drop at input)) (drop at input)) in
       let q : r .call ≡ c = n .call l in
       let here : at + feedAt (drop at input) < length input = omega (arith, n .place) in
@@ -98,5 +105,7 @@ module _ (input out₀ : List ℕ) (e₀ : Engine) (out : List ℕ) (e : Engine)
   ends-full l = feeding-feeds (inl l)
 
   -- the rest is a line that has no line feed
-  pub ends-open : (r : NextLine) → LineAt input at r → length input ≤ r .end → Feeds input out₀ out e (fed (length out₀) e₀ input) (record { consumed = at; written = written })
-  ends-open r n l = feeding-feeds (inr (omega (arith, n .place, feedAt-le (drop at input), length-drop at input)))
+  pub ends-open : (r : NextLine) → LineAt input at r → r .ended ≡ false → Feeds input out₀ out e (fed (length out₀) e₀ input) (record { consumed = at; written = written })
+  ends-open r n t =
+      let l : length input ≤ r .end = ltb-false (r .end) (length input) (sym (n .ended) ∙ t) in
+      feeding-feeds (inr (omega (arith, n .place, feedAt-le (drop at input), length-drop at input)))

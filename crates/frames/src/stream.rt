@@ -30,7 +30,7 @@ fn answer_call(
     users: &mut [Version; Engine::USERS],
     version: &mut Version,
     opened: &mut u64,
-    counts: &mut [usize; Engine::SESSIONS],
+    counts: &mut [usize; Engine::ALL_SESSIONS],
     roots: &mut [usize; Engine::PLACES],
     reaches: &mut [u64; Engine::PLACES],
     versions: &mut [Version; Engine::PLACES],
@@ -45,11 +45,13 @@ fn answer_call(
     ensures line { λ r. ⌜ Wrote (now (out .entry)) (now (out .exit)) at r (reply (engineOf (directoryOf (tablesOf (now (roles .entry)) (now (readers .entry)) (now (forwards .entry))) (now (users .entry)) (now (version .entry))) (sessionsOf (now (opened .entry)) (now (counts .entry)) (now (roots .entry)) (now (reaches .entry)) (now (versions .entry)) (now (denies .entry)) (now (rolesets .entry)))) call) ⌝ }
 {
     if let Call::Read {
+        product,
         user,
         session,
         flow,
         database,
     } = call {
+        let s = step::session_at(product, session);
         let n = reading::number(
             roles,
             readers,
@@ -61,7 +63,7 @@ fn answer_call(
             denies,
             rolesets,
             user,
-            session,
+            s,
             flow,
             database,
         );
@@ -96,7 +98,7 @@ pub fn feed(
     users: &mut [Version; Engine::USERS],
     version: &mut Version,
     opened: &mut u64,
-    counts: &mut [usize; Engine::SESSIONS],
+    counts: &mut [usize; Engine::ALL_SESSIONS],
     roots: &mut [usize; Engine::PLACES],
     reaches: &mut [u64; Engine::PLACES],
     versions: &mut [Version; Engine::PLACES],
@@ -117,7 +119,7 @@ pub fn feed(
         }
         let line = decoding::next_line(&high, &low, input, at);
         let end = line.end;
-        if input.len() <= end {
+        if !line.ended {
             break;
         }
         let call = line.call;

@@ -115,7 +115,7 @@ fn feed_some(
     users: &mut [Version; Engine::USERS],
     version: &mut Version,
     opened: &mut u64,
-    counts: &mut [usize; Engine::SESSIONS],
+    counts: &mut [usize; Engine::ALL_SESSIONS],
     roots: &mut [usize; Engine::PLACES],
     reaches: &mut [u64; Engine::PLACES],
     versions: &mut [Version; Engine::PLACES],
@@ -158,7 +158,7 @@ fn feed_all(
     users: &mut [Version; Engine::USERS],
     version: &mut Version,
     opened: &mut u64,
-    counts: &mut [usize; Engine::SESSIONS],
+    counts: &mut [usize; Engine::ALL_SESSIONS],
     roots: &mut [usize; Engine::PLACES],
     reaches: &mut [u64; Engine::PLACES],
     versions: &mut [Version; Engine::PLACES],
@@ -223,7 +223,7 @@ fn main() {
     let mut users = [0 as Version; Engine::USERS];
     let mut version: Version = 0;
     let mut opened = 0u64;
-    let mut counts = [0usize; Engine::SESSIONS];
+    let mut counts = [0usize; Engine::ALL_SESSIONS];
     let mut roots = [0usize; Engine::PLACES];
     let mut reaches = [0u64; Engine::PLACES];
     let mut versions = [0 as Version; Engine::PLACES];

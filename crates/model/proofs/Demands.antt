@@ -11,6 +11,7 @@ use borrow.Author.Tests.{eqb-false}
 use Rattle.model.specs.declared.Engine.{Engine}
 use Rattle.model.specs.declared.calls.Refusal.{Refusal}
 use Rattle.model.specs.declared.calls.Refusal.the-variants.{Malformed, AboveLimit, AlreadyThere, NotThere, FlowAdded, NotOpen, SessionFull, NotConflicting, VersionsSpent, NoSuchFlow, OutOfReach, NoPermission, Changed, Linkable}
+use Rattle.model.specs.declared.calls.Product.{Product}
 use Rattle.model.specs.declared.calls.Call.{Call}
 use Rattle.model.specs.declared.calls.Call.the-variants.{Read}
 use Rattle.model.specs.declared.calls.Verdict.{Verdict}
@@ -77,9 +78,9 @@ told (Refused why) false h = absurd (eqb-false (numberOf why) 0 (refused-number 
 -- ---- the demand
 
 -- a granted read meets no row of the ledger
-none-met : (cs : List Call) (i u s f d : ℕ) → verdict (engineAt cs i) (Read u s f d) ≡ Granted → refusal (ledgerAt cs i) (Read u s f d) ≡ 0
+none-met : (cs : List Call) (p : Product) (i u s f d : ℕ) → verdict (engineAt cs i) (Read p u s f d) ≡ Granted → refusal (ledgerAt cs i) (Read p u s f d) ≡ 0
 unfolding returned
-none-met cs i u s f d v = sym (numbered cs i (Read u s f d)) ∙ ap returned v
+none-met cs p i u s f d v = sym (numbered cs i (Read p u s f d)) ∙ ap returned v
 
 pub demand3 : (cs : List Call) → Demand3 cs
 unfolding accepts
@@ -87,6 +88,6 @@ demand3 cs = record {
   same = λ i. agree cs i .same;
   numbered = λ i. numbered cs i (callAt cs i);
   accepting = λ i l h. ap (λ (n : ℕ). eqb n 0) (numbered cs i (callAt cs i));
-  second = λ i u s f d l c r. told (verdict (engineAt cs i) (Read u s f d)) (linked (ledgerAt cs i) u s f) (numbered cs i (Read u s f d) ∙ last-row (ledgerAt cs i) u s f d r);
-  first = λ i j u s f g d e l m p q n v w a b k. first-half cs i j u s f g d e l m p q n (none-met cs i u s f d v) (none-met cs j u s g e w) a b k;
+  second = λ p i u s f d l c r. told (verdict (engineAt cs i) (Read p u s f d)) (linked (ledgerAt cs i) p u s f) (numbered cs i (Read p u s f d) ∙ last-row (ledgerAt cs i) p u s f d r);
+  first = λ p i j u s f g d e l m x y n v w a b k. first-half cs p i j u s f g d e l m x y n (none-met cs p i u s f d v) (none-met cs p j u s g e w) a b k;
 }

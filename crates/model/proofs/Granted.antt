@@ -18,7 +18,7 @@ use Rattle.model.specs.declared.calls.Call.{Call}
 use Rattle.model.specs.declared.calls.Call.the-variants.{Table, Session, Read, Unreadable}
 use Rattle.model.specs.declared.calls.Answer.{Answer}
 use Rattle.model.specs.declared.calls.Answer.the-variants.{Version, Roles, Flow, Granted as Answer·Granted, Constraint as Answer·Constraint, Refused as Answer·Refused}
-use Rattle.model.specs.State.{sessionsOf, engineOf, denyBefore, newVersion}
+use Rattle.model.specs.State.{sessionAt, sessionsOf, engineOf, denyBefore, newVersion}
 use Rattle.model.specs.Calls.{withTables, toHolders, flowsIn, conflictsIn, withFlow}
 
 -- a change of the tables: the pair, and the new versions that are due
@@ -57,12 +57,12 @@ askAnswer D S s (Show f) = Answer·Constraint s f
 -- any call
 unfoldable pub changed : Engine → Call → Engine
 changed e (Table c) = engineOf (changedDirectory (e .directory) c) (e .sessions)
-changed e (Session s a) = engineOf (e .directory) (changedSessions (e .directory) (e .sessions) s a)
-changed e (Read u s f d) = e
+changed e (Session p s a) = engineOf (e .directory) (changedSessions (e .directory) (e .sessions) (sessionAt p s) a)
+changed e (Read p u s f d) = e
 changed e Unreadable = e
 
 unfoldable pub accepted : Engine → Call → Answer
 accepted e (Table c) = Version (changedDirectory (e .directory) c .version)
-accepted e (Session s a) = askAnswer (e .directory) (e .sessions) s a
-accepted e (Read u s f d) = Answer·Granted
+accepted e (Session p s a) = askAnswer (e .directory) (e .sessions) (sessionAt p s) a
+accepted e (Read p u s f d) = Answer·Granted
 accepted e Unreadable = Answer·Refused Malformed

@@ -7,8 +7,8 @@ use lib.ListN.{length}
 use Rattle.sets.specs.Sets.{has}
 use Rattle.tables.specs.Tables.{userCount, databaseCount}
 use Rattle.model.specs.declared.Engine.{Engine}
-use Rattle.model.specs.Limits.{sessionCount, flowCount}
-use Rattle.model.specs.State.{placeCount, roleSetCount}
+use Rattle.model.specs.Limits.{flowCount}
+use Rattle.model.specs.State.{allSessions, placeCount, roleSetCount}
 use Rattle.model.specs.Calls.{flowsIn}
 
 -- the arrays have their lengths, no session has more flows than its limit, and one that is not open has none
@@ -17,11 +17,11 @@ pub record Sized (e : Engine) : Type 0 where
   pub readers : length (e .directory .tables .readers) ≡ databaseCount
   pub forwards : length (e .directory .tables .forwards) ≡ databaseCount
   pub users : length (e .directory .versions) ≡ userCount
-  pub counts : length (e .sessions .counts) ≡ sessionCount
+  pub counts : length (e .sessions .counts) ≡ allSessions
   pub roots : length (e .sessions .roots) ≡ placeCount
   pub reaches : length (e .sessions .reaches) ≡ placeCount
   pub versions : length (e .sessions .versions) ≡ placeCount
   pub denies : length (e .sessions .denies) ≡ placeCount
   pub rolesets : length (e .sessions .rolesets) ≡ roleSetCount
   pub few : (s : ℕ) → flowsIn (e .sessions) s ≤ flowCount
-  pub shut : (s : ℕ) → s < sessionCount → has (e .sessions .opened) s ≡ false → flowsIn (e .sessions) s ≡ 0
+  pub shut : (s : ℕ) → s < allSessions → has (e .sessions .opened) s ≡ false → flowsIn (e .sessions) s ≡ 0

@@ -1,7 +1,7 @@
 -- Why a stored constraint tells of today's tables: every engine reached by calls is `Kept`, and then row 14 as the engine goes by it is what the
 -- ledger says of the user and the flow, so that each call returns the number of the ledger's first row.
 -- Assumes nothing.
-use Prim.Native.Nat.{ℕ, zero, suc, _+_, _≤_, _<_}
+use Prim.Native.Nat.{ℕ, suc, _+_, _≤_, _<_}
 use mathlib.Core.Path.{_≡_, refl, sym, ap, _∙_}
 use mathlib.Core.Bool.{Bool, true, false, _&&_, true≢false}
 use mathlib.Core.List.{List}
@@ -17,12 +17,13 @@ use Rattle.tables.specs.declared.Tables.{Tables}
 use Rattle.tables.specs.Tables.{userCount, roleCount, databaseCount, holds, parentsOf, readersOf}
 use Rattle.tables.proofs.Meaning.{overlaps-iff, parents-iff}
 use Rattle.model.specs.declared.Engine.{Engine}
+use Rattle.model.specs.declared.calls.Product.{Product}
 use Rattle.model.specs.declared.calls.Ask.the-variants.{Open, Conflicting, Add, Show}
 use Rattle.model.specs.declared.calls.Call.{Call}
 use Rattle.model.specs.declared.calls.Call.the-variants.{Table, Session, Read, Unreadable}
 use Rattle.model.specs.declared.calls.Verdict.the-variants.{Granted}
 use Rattle.model.specs.Limits.{flowCount}
-use Rattle.model.specs.State.{fresh, place, roleSet, rolesetAt, linkable}
+use Rattle.model.specs.State.{fresh, sessionAt, place, roleSet, rolesetAt, linkable}
 use Rattle.model.specs.Calls.{returned, flowsIn, links, verdict, after}
 use Rattle.model.specs.Ledger.{Ledger, Flow, start, flowOf, reads, readsTwoOf, holdsDenied, linked}
 use Rattle.model.specs.Refusals.{rows, firstMet, refusal}
@@ -31,7 +32,7 @@ use Rattle.model.specs.Meaning.{flowsOf, reachOf, denyOf, rolesOf, Added
 use Rattle.model.proofs.Invariants.{Sized}
 use Rattle.model.proofs.Ledgers.{Since, Stays, Ordered, since-step, ordered-start, ordered-step, same-rows}
 use Rattle.model.proofs.Granted.{sessionOpened, changedSessions, changed}
-use Rattle.model.proofs.SeenRows.{bounded, and-same, holds-seen, permits-seen, length-flows, flow-seen, number, after-cases, within-add}
+use Rattle.model.proofs.SeenRows.{bounded, and-same, holds-seen, permits-seen, length-flows, flow-seen, number, after-cases}
 use Rattle.model.proofs.Seen.{seen-fresh, seen-after}
 use Rattle.model.proofs.Meaning.{added}
 
@@ -41,58 +42,58 @@ use Rattle.model.proofs.Meaning.{added}
 abbrev roleReads : Ledger → ℕ → Flow → Bool
 roleReads l r flow = some databaseCount (λ d. flow .reach d && l .mayRead r d)
 
--- the constraint of flow f of session s: its role sets past its own are empty; and for a user whose version is at most the flow's and who holds
--- a denied role o, a role r of that user is in the role set for g exactly when r may now read a database of g's reach
-pub record Right (e : Engine) (s f : ℕ) : Type 0 where
-  pub past : (g : ℕ) → f < g → g < flowCount → rolesetAt (e .sessions .rolesets) s f g ≡ 0
-  pub sets : (u : ℕ) → seen e .version u ≤ flowOf (seen e) s f .version
-      → (o : ℕ) → o < roleCount → seen e .holds u o ≡ true → flowOf (seen e) s f .deny o ≡ true
+-- the constraint of flow f of product p's session s: its role sets past its own are empty; and for a user whose version is at most the flow's and
+-- who holds a denied role o, a role r of that user is in the role set for g exactly when r may now read a database of g's reach
+pub record Right (e : Engine) (p : Product) (s f : ℕ) : Type 0 where
+  pub past : (g : ℕ) → f < g → g < flowCount → rolesetAt (e .sessions .rolesets) (sessionAt p s) f g ≡ 0
+  pub sets : (u : ℕ) → seen e .version u ≤ flowOf (seen e) p s f .version
+      → (o : ℕ) → o < roleCount → seen e .holds u o ≡ true → flowOf (seen e) p s f .deny o ≡ true
       → (r : ℕ) → r < roleCount → seen e .holds u r ≡ true → (g : ℕ) → g ≤ f
-      → has (rolesetAt (e .sessions .rolesets) s f g) r ≡ roleReads (seen e) r (flowOf (seen e) s g)
+      → has (rolesetAt (e .sessions .rolesets) (sessionAt p s) f g) r ≡ roleReads (seen e) r (flowOf (seen e) p s g)
 
 pub record Kept (e : Engine) : Type 0 where
   pub ordered : Ordered (seen e)
-  pub right : (s f : ℕ) → f < length (seen e .flows s) → Right e s f
+  pub right : (p : Product) (s f : ℕ) → f < length (seen e .flows p s) → Right e p s f
 
-no-flow : (s f : ℕ) → f < length (seen fresh .flows s) → ⊥
+no-flow : (p : Product) (s f : ℕ) → f < length (seen fresh .flows p s) → ⊥
 unfolding start
-no-flow s f l = let h : f < 0 = rw seen-fresh at l in omega arith
+no-flow p s f l = let h : f < 0 = rw seen-fresh at l in omega arith
 
 pub kept-fresh : Kept fresh
-kept-fresh = record { ordered = rw seen-fresh ordered-start; right = λ s f l. absurd (no-flow s f l) }
+kept-fresh = record { ordered = rw seen-fresh ordered-start; right = λ p s f l. absurd (no-flow p s f l) }
 
 -- ---- a flow that was there
 
 -- nothing is asked of a user who got a version above the flow's; another user only lost roles, and the roles kept may read what they could
-module _ (e x : Engine) (s f : ℕ) (l : f < length (seen e .flows s)) (fl : f < flowCount) (o : Ordered (seen e)) (h : Since (seen e) (seen x))
-    (same : (g : ℕ) → g < flowCount → rolesetAt (x .sessions .rolesets) s f g ≡ rolesetAt (e .sessions .rolesets) s f g) where
-  right-since : Right e s f → Right x s f
+module _ (e x : Engine) (p : Product) (s f : ℕ) (l : f < length (seen e .flows p s)) (fl : f < flowCount) (o : Ordered (seen e)) (h : Since (seen e) (seen x))
+    (same : (g : ℕ) → g < flowCount → rolesetAt (x .sessions .rolesets) (sessionAt p s) f g ≡ rolesetAt (e .sessions .rolesets) (sessionAt p s) f g) where
+  right-since : Right e p s f → Right x p s f
   right-since k = record {
     past = λ g m n. same g n ∙ k .past g m n;
     sets = λ u v o ol oh od r rl rh g gl. go u (rw flow at v) o ol oh (rw flow at od) r rl rh g gl (h .users u);
   }
     where
-      flow : flowOf (seen x) s f ≡ flowOf (seen e) s f
-      flow = h .flows s f l .1
+      flow : flowOf (seen x) p s f ≡ flowOf (seen e) p s f
+      flow = h .flows p s f l .1
 
-      go : (u : ℕ) → seen x .version u ≤ flowOf (seen e) s f .version
-          → (o : ℕ) → o < roleCount → seen x .holds u o ≡ true → flowOf (seen e) s f .deny o ≡ true
+      go : (u : ℕ) → seen x .version u ≤ flowOf (seen e) p s f .version
+          → (o : ℕ) → o < roleCount → seen x .holds u o ≡ true → flowOf (seen e) p s f .deny o ≡ true
           → (r : ℕ) → r < roleCount → seen x .holds u r ≡ true → (g : ℕ) → g ≤ f
           → (seen e .system < seen x .version u) ⊎ Stays (seen e) (seen x) u
-          → has (rolesetAt (x .sessions .rolesets) s f g) r ≡ roleReads (seen x) r (flowOf (seen x) s g)
-      go u v p pl ph pd r rl rh g gl (inl w) = absurd (omega (arith, o .flows s f l))
-      go u v p pl ph pd r rl rh g gl (inr w) =
+          → has (rolesetAt (x .sessions .rolesets) (sessionAt p s) f g) r ≡ roleReads (seen x) r (flowOf (seen x) p s g)
+      go u v q ql qh qd r rl rh g gl (inl w) = absurd (omega (arith, o .flows p s f l))
+      go u v q ql qh qd r rl rh g gl (inr w) =
           ap (λ (y : ℕ). has y r) (same g (omega arith))
-          ∙ k .sets u (rw (w .version) at v) p pl (w .held p ph) pd r rl (w .held r rh) g gl
-          ∙ some-cong databaseCount _ _ (λ d m. rw (h .flows s g (omega arith) .1, w .readers r rh d))
+          ∙ k .sets u (rw (w .version) at v) q ql (w .held q qh) qd r rl (w .held r rh) g gl
+          ∙ some-cong databaseCount _ _ (λ d m. rw (h .flows p s g (omega arith) .1, w .readers r rh d))
 
 -- as many flows as before, and their role sets
 module _ (e x : Engine) (z : Sized e) (k : Kept e) (h : Since (seen e) (seen x)) (counts : x .sessions .counts ≡ e .sessions .counts) (sets : x .sessions .rolesets ≡ e .sessions .rolesets) where
-  right-same : (s f : ℕ) → f < length (seen x .flows s) → Right x s f
-  right-same s f l =
-      let m : f < flowsIn (e .sessions) s = rw (length-flows x s, counts) at l in
-      let n : f < length (seen e .flows s) = rw (length-flows e s) m in
-      right-since e x s f n (omega (arith, z .few s)) (k .ordered) h (λ g i. rw sets) (k .right s f n)
+  right-same : (p : Product) (s f : ℕ) → f < length (seen x .flows p s) → Right x p s f
+  right-same p s f l =
+      let m : f < flowsIn (e .sessions) (sessionAt p s) = rw (length-flows x p s, counts) at l in
+      let n : f < length (seen e .flows p s) = rw (length-flows e p s) m in
+      right-since e x p s f n (omega (arith, z .few (sessionAt p s))) (k .ordered) h (λ g i. rw sets) (k .right p s f n)
 
 -- ---- a new flow
 
@@ -115,7 +116,41 @@ module _ (T : Tables) (deny : ℕ) where
       ∙ rw (parents-iff roleCount userCount (T .roles) deny r .1 (rl, (o, ol, od, overlaps-iff userCount (T .roles) o r .1 (u, ul, oh, rh))))
       (sym (and-all (has (readersOf roleCount databaseCount (T .readers) x) r)) ∙ has-setOf roleCount _ r rl)
 
-module _ (e x : Engine) (z : Sized e) (s root chosen : ℕ) (nl : flowsOf e s < flowCount) (a : Added e x s root chosen) where
+-- product p's session s got it
+module _ (e x : Engine) (z : Sized e) (p : Product) (s root chosen : ℕ) (a : Added e x (sessionAt p s) root chosen) where
+  n : ℕ
+  n = flowsOf e (sessionAt p s)
+
+  -- what a ledger sees of the flows up to the new one
+  its-deny : (o : ℕ) → o < roleCount → has (denyOf x (sessionAt p s) n) o ≡ flowOf (seen x) p s n .deny o
+  unfolding n flowSeen
+  its-deny o l = rw (flow-seen x p s n (omega (arith, a .counted))) (bounded roleCount o _ l)
+
+  its-reach : (g d : ℕ) → g ≤ n → d < databaseCount → has (reachOf x (sessionAt p s) g) d ≡ flowOf (seen x) p s g .reach d
+  unfolding n flowSeen
+  its-reach g d l m = rw (flow-seen x p s g (omega (arith, a .counted))) (bounded databaseCount d _ m)
+
+  its-roles : (g : ℕ) → g ≤ n → rolesOf x (sessionAt p s) n g ≡ roleSet roleCount userCount databaseCount (x .directory .tables) (denyOf x (sessionAt p s) n) (reachOf x (sessionAt p s) g)
+  unfolding n
+  its-roles g l = rw (a .directory) (a .roles-of g l)
+
+  roles-length : length (x .directory .tables .roles) ≡ userCount
+  roles-length = rw (a .directory) (z .roles)
+
+  right-new : Right x p s (flowsOf e (sessionAt p s))
+  unfolding n
+  right-new = record {
+    past = a .roles-past;
+    sets = λ u v o ol oh od r rl rh g gl.
+        let i = holds-seen x u o ol ∙ oh in
+        ap (λ (y : ℕ). has y r) (its-roles g gl)
+        ∙ has-roleSet (x .directory .tables) (denyOf x (sessionAt p s) n) (reachOf x (sessionAt p s) g) u o r
+        (rw (← roles-length) (holder-lt (x .directory .tables .roles) u o i)) ol i (its-deny o ol ∙ od) rl (holds-seen x u r rl ∙ rh)
+        ∙ some-cong databaseCount _ _ (λ d m. and-same (its-reach g d gl m) (permits-seen x r d rl));
+  }
+
+-- the session of this number got it; what is kept of a product's session goes by its number alone
+module _ (e x : Engine) (z : Sized e) (s root chosen : ℕ) (a : Added e x s root chosen) where
   -- a flow that is there now is the new one, or was there before
   new-or-old : (t f : ℕ) → f < flowsOf x t → ((t ≡ s) × (f ≡ flowsOf e s)) ⊎ ((f < flowsOf e t) × ((t ≡ s) → f ≡ flowsOf e s → ⊥))
   new-or-old t f l = go (ℕ-discrete t s) (ℕ-discrete f (flowsOf e s))
@@ -127,51 +162,30 @@ module _ (e x : Engine) (z : Sized e) (s root chosen : ℕ) (nl : flowsOf e s < 
           inr (rw q (omega arith), λ p. h)
       go (no q) h = inr (rw (a .elsewhere t q) at l, λ p r. q p)
 
-  -- what a ledger sees of the flows up to the new one
-  its-deny : (o : ℕ) → o < roleCount → has (denyOf x s (flowsOf e s)) o ≡ flowOf (seen x) s (flowsOf e s) .deny o
-  unfolding flowSeen
-  its-deny o l = rw (flow-seen x s (flowsOf e s) (omega (arith, a .counted))) (bounded roleCount o _ l)
-
-  its-reach : (g d : ℕ) → g ≤ flowsOf e s → d < databaseCount → has (reachOf x s g) d ≡ flowOf (seen x) s g .reach d
-  unfolding flowSeen
-  its-reach g d l m = rw (flow-seen x s g (omega (arith, a .counted))) (bounded databaseCount d _ m)
-
-  its-roles : (g : ℕ) → g ≤ flowsOf e s → rolesOf x s (flowsOf e s) g ≡ roleSet roleCount userCount databaseCount (x .directory .tables) (denyOf x s (flowsOf e s)) (reachOf x s g)
-  its-roles g l = rw (a .directory) (a .roles-of g l)
-
-  roles-length : length (x .directory .tables .roles) ≡ userCount
-  roles-length = rw (a .directory) (z .roles)
-
-  right-new : Right x s (flowsOf e s)
-  right-new = record {
-    past = a .roles-past;
-    sets = λ u v o ol oh od r rl rh g gl.
-        let i = holds-seen x u o ol ∙ oh in
-        ap (λ (y : ℕ). has y r) (its-roles g gl)
-        ∙ has-roleSet (x .directory .tables) (denyOf x s (flowsOf e s)) (reachOf x s g) u o r
-        (rw (← roles-length) (holder-lt (x .directory .tables .roles) u o i)) ol i (its-deny o ol ∙ od) rl (holds-seen x u r rl ∙ rh)
-        ∙ some-cong databaseCount _ _ (λ d m. and-same (its-reach g d gl m) (permits-seen x r d rl));
-  }
-
-  right-put : Kept e → Since (seen e) (seen x) → (t f : ℕ) → f < length (seen x .flows t) → Right x t f
-  right-put k h t f l =
-      ⊎-elim (λ (q : (t ≡ s) × (f ≡ flowsOf e s)). rw (q .0, q .1) right-new)
-      (λ (q : (f < flowsOf e t) × ((t ≡ s) → f ≡ flowsOf e s → ⊥)).
-      let m : f < length (seen e .flows t) = rw (length-flows e t) (q .0) in
-      let i : f < flowCount = omega (arith, z .few t) in
-      right-since e x t f m i (k .ordered) h (a .older t f i (q .1) .roles) (k .right t f m))
-      (new-or-old t f (rw (length-flows x t) at l))
+  right-put : Kept e → Since (seen e) (seen x) → (q : Product) (t f : ℕ) → f < length (seen x .flows q t) → Right x q t f
+  right-put k h q t f l =
+      ⊎-elim
+      (λ (w : (sessionAt q t ≡ s) × (f ≡ flowsOf e s)).
+      let b : Added e x (sessionAt q t) root chosen = rw (w .0) a in
+      let i : f ≡ flowsOf e (sessionAt q t) = rw (w .0) (w .1) in
+      rw i (right-new e x z q t root chosen b))
+      (λ (w : (f < flowsOf e (sessionAt q t)) × ((sessionAt q t ≡ s) → f ≡ flowsOf e s → ⊥)).
+      let m : f < length (seen e .flows q t) = rw (length-flows e q t) (w .0) in
+      let i : f < flowCount = omega (arith, z .few (sessionAt q t)) in
+      right-since e x q t f m i (k .ordered) h (a .older (sessionAt q t) f i (w .1) .roles) (k .right q t f m))
+      (new-or-old (sessionAt q t) f (rw (length-flows x q t) at l))
 
 -- ---- every call keeps it
 
-right-changed : (e : Engine) (c : Call) → Sized e → Kept e → Since (seen e) (seen (changed e c)) → verdict e c ≡ Granted → (s f : ℕ) → f < length (seen (changed e c) .flows s) → Right (changed e c) s f
+right-changed : (e : Engine) (c : Call) → Sized e → Kept e → Since (seen e) (seen (changed e c)) → verdict e c ≡ Granted
+    → (p : Product) (s f : ℕ) → f < length (seen (changed e c) .flows p s) → Right (changed e c) p s f
 unfolding changed changedSessions sessionOpened
 right-changed e (Table c) z k h v = right-same e _ z k h refl refl
-right-changed e (Session s Open) z k h v = right-same e _ z k h refl refl
-right-changed e (Session s (Conflicting root)) z k h v = right-same e _ z k h refl refl
-right-changed e (Session s (Add root chosen)) z k h v = right-put e _ z s root chosen (within-add e s root chosen v .4) (added e s root chosen z v) k h
-right-changed e (Session s (Show f)) z k h v = right-same e _ z k h refl refl
-right-changed e (Read u s f d) z k h v = k .right
+right-changed e (Session p s Open) z k h v = right-same e _ z k h refl refl
+right-changed e (Session p s (Conflicting root)) z k h v = right-same e _ z k h refl refl
+right-changed e (Session p s (Add root chosen)) z k h v = right-put e _ z (sessionAt p s) root chosen (added e p s root chosen z v) k h
+right-changed e (Session p s (Show f)) z k h v = right-same e _ z k h refl refl
+right-changed e (Read p u s f d) z k h v = k .right
 right-changed e Unreadable z k h v = k .right
 
 pub kept-after : (e : Engine) (c : Call) → Sized e → Kept e → Kept (after e c)
@@ -181,46 +195,46 @@ kept-after e c z k =
 
 -- ---- row 14
 
-module _ (e : Engine) (u s f : ℕ) (k : Kept e) (fl : f < flowCount) (l : f < length (seen e .flows s)) (v : seen e .version u ≤ flowOf (seen e) s f .version) where
+module _ (e : Engine) (p : Product) (u s f : ℕ) (k : Kept e) (fl : f < flowCount) (l : f < length (seen e .flows p s)) (v : seen e .version u ≤ flowOf (seen e) p s f .version) where
   held : ℕ
   held = getD (e .directory .tables .roles) u 0
 
-  is-there : f < flowsIn (e .sessions) s
-  is-there = rw (length-flows e s) at l
+  is-there : f < flowsIn (e .sessions) (sessionAt p s)
+  is-there = rw (length-flows e p s) at l
 
-  denied : meeting roleCount held (getD (e .sessions .denies) (place s f) 0) ≡ holdsDenied (seen e) u (flowOf (seen e) s f)
+  denied : meeting roleCount held (getD (e .sessions .denies) (place (sessionAt p s) f) 0) ≡ holdsDenied (seen e) u (flowOf (seen e) p s f)
   unfolding held holdsDenied meeting flowSeen there
-  denied = rw (flow-seen e s f is-there) (some-cong roleCount _ _ (λ r m. and-same (holds-seen e u r m) (bounded roleCount r _ m)))
+  denied = rw (flow-seen e p s f is-there) (some-cong roleCount _ _ (λ r m. and-same (holds-seen e u r m) (bounded roleCount r _ m)))
 
   -- where the user holds a denied role, the user's roles meet the role set of g exactly when the user may statically read g
-  meets-stored : holdsDenied (seen e) u (flowOf (seen e) s f) ≡ true → (g : ℕ) → g ≤ f → meeting roleCount held (rolesetAt (e .sessions .rolesets) s f g) ≡ reads (seen e) u (flowOf (seen e) s g)
+  meets-stored : holdsDenied (seen e) u (flowOf (seen e) p s f) ≡ true → (g : ℕ) → g ≤ f → meeting roleCount held (rolesetAt (e .sessions .rolesets) (sessionAt p s) f g) ≡ reads (seen e) u (flowOf (seen e) p s g)
   unfolding held holdsDenied meeting reads there
   meets-stored h g gl =
       let o = some-of roleCount _ h in
-      let b = and-both (seen e .holds u (o .0)) (flowOf (seen e) s f .deny (o .0)) (o .2) in
-      some-cong roleCount _ _ (λ r m. ap (λ (t : Bool). t && has (rolesetAt (e .sessions .rolesets) s f g) r) (holds-seen e u r m) ∙ same r m (o .0) (o .1) (b .0) (b .1) (seen e .holds u r) refl)
+      let b = and-both (seen e .holds u (o .0)) (flowOf (seen e) p s f .deny (o .0)) (o .2) in
+      some-cong roleCount _ _ (λ r m. ap (λ (t : Bool). t && has (rolesetAt (e .sessions .rolesets) (sessionAt p s) f g) r) (holds-seen e u r m) ∙ same r m (o .0) (o .1) (b .0) (b .1) (seen e .holds u r) refl)
     where
-      same : (r : ℕ) → r < roleCount → (o : ℕ) → o < roleCount → seen e .holds u o ≡ true → flowOf (seen e) s f .deny o ≡ true → (b : Bool) → seen e .holds u r ≡ b
-          → (b && has (rolesetAt (e .sessions .rolesets) s f g) r) ≡ (b && roleReads (seen e) r (flowOf (seen e) s g))
-      same r rl o ol oh od true rh = k .right s f l .sets u v o ol oh od r rl rh g gl
+      same : (r : ℕ) → r < roleCount → (o : ℕ) → o < roleCount → seen e .holds u o ≡ true → flowOf (seen e) p s f .deny o ≡ true → (b : Bool) → seen e .holds u r ≡ b
+          → (b && has (rolesetAt (e .sessions .rolesets) (sessionAt p s) f g) r) ≡ (b && roleReads (seen e) r (flowOf (seen e) p s g))
+      same r rl o ol oh od true rh = k .right p s f l .sets u v o ol oh od r rl rh g gl
       same r rl o ol oh od false rh = refl
 
   -- the stored constraint says what the ledger says
-  pub stored-linked : storedLinkable e u s f ≡ linked (seen e) u s f
+  pub stored-linked : storedLinkable e p u s f ≡ linked (seen e) p u s f
   unfolding storedLinkable links linkable linked readsTwoOf held
-  stored-linked = rw denied (go (holdsDenied (seen e) u (flowOf (seen e) s f)) refl)
+  stored-linked = rw denied (go (holdsDenied (seen e) u (flowOf (seen e) p s f)) refl)
     where
-      p : ℕ → Bool
-      p g = meeting roleCount held (rolesetAt (e .sessions .rolesets) s f g)
+      meets : ℕ → Bool
+      meets g = meeting roleCount held (rolesetAt (e .sessions .rolesets) (sessionAt p s) f g)
 
-      q : ℕ → Bool
-      q g = reads (seen e) u (flowOf (seen e) s g)
+      may : ℕ → Bool
+      may g = reads (seen e) u (flowOf (seen e) p s g)
 
-      go : (b : Bool) → holdsDenied (seen e) u (flowOf (seen e) s f) ≡ b → (b && leb 2 (count flowCount p)) ≡ (b && leb 2 (count (suc f) q))
+      go : (b : Bool) → holdsDenied (seen e) u (flowOf (seen e) p s f) ≡ b → (b && leb 2 (count flowCount meets)) ≡ (b && leb 2 (count (suc f) may))
       go true h =
           ap (leb 2)
-          (count-stops (suc f) flowCount p fl (λ g m n. ap (meeting roleCount held) (k .right s f l .past g m n) ∙ meets-none roleCount held)
-          ∙ count-cong (suc f) p q (λ g m. meets-stored h g (omega arith)))
+          (count-stops (suc f) flowCount meets fl (λ g m n. ap (meeting roleCount held) (k .right p s f l .past g m n) ∙ meets-none roleCount held)
+          ∙ count-cong (suc f) meets may (λ g m. meets-stored h g (omega arith)))
       go false h = refl
 
 -- ---- the number returned is that of the ledger's own rows
@@ -231,6 +245,6 @@ number-told e c k = number e c ∙ go c
   where
     go : (x : Call) → firstMet (rows (seen e) (storedLinkable e) x) ≡ firstMet (rows (seen e) (linked (seen e)) x)
     go (Table a) = refl
-    go (Session s a) = refl
-    go (Read u s f d) = same-rows (seen e) (storedLinkable e) (linked (seen e)) u s f d (stored-linked e u s f k)
+    go (Session p s a) = refl
+    go (Read p u s f d) = same-rows (seen e) (storedLinkable e) (linked (seen e)) p u s f d (stored-linked e p u s f k)
     go Unreadable = refl

@@ -13,7 +13,7 @@ use Rattle.model.specs.declared.calls.Ask.the-variants.{Open, Conflictin
 use Rattle.model.specs.declared.calls.Call.{Call}
 use Rattle.model.specs.declared.calls.Call.the-variants.{Table, Session, Read, Unreadable}
 use Rattle.model.specs.Limits.{flowCount}
-use Rattle.model.specs.State.{fresh, engineOf}
+use Rattle.model.specs.State.{fresh, sessionAt, engineOf}
 use Rattle.model.specs.Calls.{after}
 use Rattle.model.specs.Demands.{engineAfter, engineAt, callAt}
 use Rattle.model.specs.Meaning.{flowsOf, SameFlow, Added, Means}
@@ -60,11 +60,11 @@ still-added e new t root chosen s f m l a = go (ℕ-discrete s t)
 -- any accepted call
 still-means : (e new : Engine) (c : Call) (s f : ℕ) → f < flowCount → f < flowsOf e s → Means e new c → Still e new s f
 still-means e new (Table c) s f k l m = rw (m .1) (still-sessions e (new .directory) s f l)
-still-means e new (Session t Open) s f k l m = record { there = rw (m .counts s) l; same = m .flows s f }
-still-means e new (Session t (Conflicting root)) s f k l m = rw m (still-here e s f l)
-still-means e new (Session t (Add root chosen)) s f k l m = still-added e new t root chosen s f k l m
-still-means e new (Session t (Show g)) s f k l m = rw m (still-here e s f l)
-still-means e new (Read u t g d) s f k l m = rw m (still-here e s f l)
+still-means e new (Session p t Open) s f k l m = record { there = rw (m .counts s) l; same = m .flows s f }
+still-means e new (Session p t (Conflicting root)) s f k l m = rw m (still-here e s f l)
+still-means e new (Session p t (Add root chosen)) s f k l m = still-added e new (sessionAt p t) root chosen s f k l m
+still-means e new (Session p t (Show g)) s f k l m = rw m (still-here e s f l)
+still-means e new (Read p u t g d) s f k l m = rw m (still-here e s f l)
 still-means e new Unreadable s f k l m = absurd m
 
 still-after : (e : Engine) (c : Call) (s f : ℕ) → Sized e → f < flowsOf e s → Still e (after e c) s f
@@ -104,6 +104,6 @@ still-at cs i j s f m l = along (λ k. Still (engineAt cs i) (engineAt cs k) s f
 
 pub lasting : (cs : List Call) → Lasting cs
 lasting cs = record {
-  stored = λ i s root chosen l c h. rw (engine-step cs i l, c) (call-means cs i (Session s (Add root chosen)) h);
+  stored = λ p i s root chosen l c h. rw (engine-step cs i l, c) (call-means cs i (Session p s (Add root chosen)) h);
   kept = λ i j s f m l. still-at cs i j s f m l .same;
 }

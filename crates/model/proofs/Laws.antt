@@ -2,21 +2,25 @@
 -- Assumes nothing.
 use Prim.Native.Nat.{ℕ, zero, suc, _+_, _*_, _≤_, _<_}
 use mathlib.Core.Path.{_≡_, refl, sym, ap, ap₂, _∙_}
-use mathlib.Core.Bool.{Bool, true, false, cond}
+use mathlib.Core.Bool.{Bool, true, false, cond, _&&_, _||_, false≢true}
 use mathlib.Core.List.{List, [], _∷_, _++_}
 use mathlib.Core.Logic.{_⊎_, inl, inr, ⊎-elim}
 use native.Mathlib.Nat.{eq-or-lt-of-le}
 use native.Mathlib.Numerals.{add-one}
 use native.Mathlib.Decide.{decLt}
 use native.Mathlib.Omega.{arith}
-use lib.Dec.{ltb, eqb}
+use lib.Dec.{leb, ltb, eqb}
 use lib.ListN.{length, getD, set, replicate, length-append, length-set, List·getD-append, List·getD-eq-default}
 use lib.Seq.{getD-at, getD-set-same, getD-set-other}
-use borrow.Author.Tests.{ltb-true, ltb-false, eq-eqb, ne-eqb}
-use Rattle.sets.proofs.Laws.{true-or-false}
+use borrow.Author.Tests.{ltb-true, ltb-false, lt-ltb, le-ltb, lt-leb, le-leb, eqb-true, eqb-false, eq-eqb, ne-eqb}
+use Rattle.sets.specs.Sets.{some}
+use Rattle.sets.proofs.Laws.{true-or-false, or-none, some-none, some-suc}
+use Rattle.model.specs.declared.calls.Product.{Product}
+use Rattle.model.specs.declared.calls.Product.the-variants.{Server, TermBank}
 use Rattle.model.specs.Limits.{sessionCount, flowCount}
-use Rattle.model.specs.State.{placeCount, roleSetCount}
+use Rattle.model.specs.State.{allSessions, firstOf, sessionAt, placeCount, roleSetCount}
 use Rattle.model.specs.State.{filled, place, setPlace, rolesetAt, given}
+use Rattle.model.specs.Ledger.{same}
 use Rattle.model.specs.Demands.{listOf}
 
 -- ---- lists made of a function
@@ -178,6 +182,94 @@ given-one u v (suc n) l k = go (given-one u v n l) (decLt u n)
         let e : n ≡ u = omega arith in
         given-hit (λ w. eqb w u) v n l (eq-eqb n u e) ∙ ap₂ (λ (xs : List ℕ) (i : ℕ). set xs i v) (given-none (λ w. eqb w u) v n l (λ w j. ne-eqb w u (λ q. omega arith))) e
 
+-- ---- the numbers of the sessions
+
+pub or-assoc : (a b c : Bool) → ((a || b) || c) ≡ (a || (b || c))
+or-assoc true b c = refl
+or-assoc false b c = refl
+
+-- something among the first m, or among the next n
+pub some-parts : (m n : ℕ) (p : ℕ → Bool) → some (m + n) p ≡ (some m p || some n (λ i. p (m + i)))
+some-parts m zero p =
+    let z : m + 0 ≡ m = omega arith in
+    rw (z, some-none (λ i. p (m + i))) (or-none (some m p))
+some-parts m (suc n) p =
+    let z : m + suc n ≡ suc (m + n) = omega arith in
+    rw z (some-suc (m + n) p ∙ ap (λ (b : Bool). b || p (m + n)) (some-parts m n p) ∙ or-assoc (some m p) (some n (λ i. p (m + i))) (p (m + n)) ∙ ap (λ (b : Bool). some m p || b) (sym (some-suc n (λ i. p (m + i)))))
+
+pub same-is : (p q : Product) → same p q ≡ true → p ≡ q
+unfolding same
+same-is Server Server h = refl
+same-is Server TermBank h = absurd (false≢true h)
+same-is TermBank Server h = absurd (false≢true h)
+same-is TermBank TermBank h = refl
+
+pub same-self : (p : Product) → same p p ≡ true
+unfolding same
+same-self Server = refl
+same-self TermBank = refl
+
+-- below its limit a session's number is counted from its product's first one
+pub session-there : (p : Product) (s : ℕ) → s < sessionCount → sessionAt p s ≡ firstOf p + s
+unfolding sessionAt
+session-there p s l = rw (lt-ltb s sessionCount l)
+
+pub session-above : (p : Product) (s : ℕ) → sessionCount ≤ s → sessionAt p s ≡ allSessions
+unfolding sessionAt
+session-above p s l = rw (le-ltb s sessionCount l)
+
+first-room : (p : Product) → firstOf p + sessionCount ≤ allSessions
+unfolding firstOf
+first-room Server = omega arith
+first-room TermBank = omega arith
+
+pub session-within : (p : Product) (s : ℕ) → s < sessionCount → sessionAt p s < allSessions
+session-within p s l = rw (session-there p s l) (omega (arith, first-room p))
+
+-- so the check against all sessions is the one against the product's own
+pub session-limit : (p : Product) (s : ℕ) → leb allSessions (sessionAt p s) ≡ leb sessionCount s
+session-limit p s = go (decLt s sessionCount)
+  where
+    go : Dec (s < sessionCount) → leb allSessions (sessionAt p s) ≡ leb sessionCount s
+    go (yes l) = lt-leb allSessions (sessionAt p s) (session-within p s l) ∙ sym (lt-leb sessionCount s l)
+    go (no l) = rw (session-above p s (omega arith)) (le-leb allSessions allSessions (omega arith) ∙ sym (le-leb sessionCount s (omega arith)))
+
+pub session-most : (p : Product) (s : ℕ) → sessionAt p s ≤ allSessions
+session-most p s = go (decLt s sessionCount)
+  where
+    go : Dec (s < sessionCount) → sessionAt p s ≤ allSessions
+    go (yes l) = omega (arith, session-within p s l)
+    go (no l) = omega (arith, session-above p s (omega arith))
+
+-- two numbers from the products' first ones on are one where the products are and the sessions are
+from-one : (n t s : ℕ) → eqb (n + t) (n + s) ≡ eqb t s
+from-one n t s = go (eqb t s) refl
+  where
+    go : (b : Bool) → eqb t s ≡ b → eqb (n + t) (n + s) ≡ b
+    go true h = eq-eqb (n + t) (n + s) (ap (λ (i : ℕ). n + i) (eqb-true t s h))
+    go false h = ne-eqb (n + t) (n + s) (λ e. eqb-false t s h (omega arith))
+
+first-one : (q p : Product) (t s : ℕ) → t < sessionCount → s < sessionCount → eqb (firstOf q + t) (firstOf p + s) ≡ (same q p && eqb t s)
+unfolding firstOf same
+first-one Server Server t s l m = from-one 0 t s
+first-one Server TermBank t s l m = ne-eqb (0 + t) (sessionCount + s) (λ e. omega arith)
+first-one TermBank Server t s l m = ne-eqb (sessionCount + t) (0 + s) (λ e. omega arith)
+first-one TermBank TermBank t s l m = from-one sessionCount t s
+
+-- each session has a number of its own; one above its limit has that of none
+pub session-one : (q p : Product) (t s : ℕ) → s < sessionCount → eqb (sessionAt q t) (sessionAt p s) ≡ (same q p && eqb t s)
+session-one q p t s l = go (decLt t sessionCount)
+  where
+    none : (a : Bool) → false ≡ (a && false)
+    none true = refl
+    none false = refl
+
+    go : Dec (t < sessionCount) → eqb (sessionAt q t) (sessionAt p s) ≡ (same q p && eqb t s)
+    go (yes m) = rw (session-there q t m, session-there p s l) (first-one q p t s m l)
+    go (no m) =
+        let a : sessionAt q t ≡ allSessions = session-above q t (omega arith) in
+        ne-eqb (sessionAt q t) (sessionAt p s) (λ e. omega (arith, session-within p s l)) ∙ rw (ne-eqb t s (λ e. omega arith)) (none (same q p))
+
 -- ---- places
 
 -- eight to a row: what stands at one place is in one row, at one place of it; and it stands inside the rows
@@ -197,11 +289,11 @@ unfolding setPlace
 setPlaces t f g s n h l m d e = d (one-place (place t f) g (place s n) h l m e .0)
 
 -- a place stands inside the arrays
-pub place-lt : (s f : ℕ) → s < sessionCount → f < flowCount → place s f < placeCount
+pub place-lt : (s f : ℕ) → s < allSessions → f < flowCount → place s f < placeCount
 unfolding place
-place-lt s f l m = row-lt sessionCount s f l m
+place-lt s f l m = row-lt allSessions s f l m
 
-pub setPlace-lt : (s f g : ℕ) → s < sessionCount → f < flowCount → g < flowCount → setPlace s f g < roleSetCount
+pub setPlace-lt : (s f g : ℕ) → s < allSessions → f < flowCount → g < flowCount → setPlace s f g < roleSetCount
 unfolding setPlace
 setPlace-lt s f g l m k = row-lt placeCount (place s f) g (place-lt s f l m) k
 
@@ -212,7 +304,7 @@ unfolding setPlace
 set-from s n g = omega arith
 
 module _ (rolesets : List ℕ) (s n : ℕ) (p : ℕ → ℕ) where
-  pub roleset-put : (g : ℕ) → length rolesets ≡ roleSetCount → s < sessionCount → n < flowCount → g < flowCount → rolesetAt (filled (setPlace s n 0) p flowCount rolesets) s n g ≡ p g
+  pub roleset-put : (g : ℕ) → length rolesets ≡ roleSetCount → s < allSessions → n < flowCount → g < flowCount → rolesetAt (filled (setPlace s n 0) p flowCount rolesets) s n g ≡ p g
   unfolding rolesetAt
   roleset-put g z l m k =
       let b : setPlace s n 0 + flowCount ≤ length rolesets = omega (arith, setPlace-lt s n 7 l m (omega arith), set-from s n 7) in

@@ -1,5 +1,5 @@
 -- What the ledger alone tells of a list of calls: what a call changes, and what stays from one call to a later one.
--- With it the first half of demand 3, over the ledger: under its premises no user's reads of two flows of one session both meet no row.
+-- With it the first half of demand 3, over the ledger: under its premises no user's reads of two flows of one product's session both meet no row.
 -- Assumes nothing.
 use Prim.Native.Nat.{ℕ, zero, suc, _+_, _≤_, _<_}
 use mathlib.Core.Path.{_≡_, refl, sym, ap, _∙_, subst}
@@ -17,14 +17,16 @@ use Rattle.sets.proofs.Laws.{and-both, and-true, or-either, or-neither, or-none
 use Rattle.tables.specs.Tables.{userCount, roleCount, databaseCount}
 use Rattle.model.specs.declared.calls.Change.{Change}
 use Rattle.model.specs.declared.calls.Change.the-variants.{Assign, Withdraw, Permit, Revoke, Forward}
+use Rattle.model.specs.declared.calls.Product.{Product}
 use Rattle.model.specs.declared.calls.Ask.{Ask}
 use Rattle.model.specs.declared.calls.Ask.the-variants.{Open, Conflicting, Add, Show}
 use Rattle.model.specs.declared.calls.Call.{Call}
 use Rattle.model.specs.declared.calls.Call.the-variants.{Table, Session, Read, Unreadable}
 use Rattle.model.specs.Limits.{sessionCount, flowCount}
-use Rattle.model.specs.Ledger.{Ledger, Flow, start, flowOf, reads, readsTwoOf, holdsDenied, linked}
+use Rattle.model.specs.Ledger.{Ledger, Flow, start, same, flowOf, reads, readsTwoOf, holdsDenied, linked}
 use Rattle.model.specs.Refusals.{due, newFlow, askRows, readRows, rows, firstMet, refusal, earlierRefusal, accepts, plus, minus, entered, renewed, withFlows, asked, taken, ledgerStep, ledgerAfter}
 use Rattle.model.specs.Demands.{callAt, ledgerAt, takesFrom}
+use Rattle.model.proofs.Laws.{same-is}
 use Rattle.model.proofs.Chains.{not-met}
 
 -- ---- the rows of a read
@@ -33,10 +35,10 @@ use Rattle.model.proofs.Chains.{not-met}
 unfoldable firstOf : (a b c g h i p : Bool) → ℕ
 firstOf a b c g h i p = cond a 2 (cond b 6 (cond c 10 (cond g 11 (cond h 12 (cond i 13 (cond p 14 0))))))
 
-module _ (l : Ledger) (p : ℕ → ℕ → ℕ → Bool) (u s f d : ℕ) where
-  met-read : firstMet (readRows l p u s f d)
-      ≡ firstOf ((leb userCount u || leb databaseCount d) || (leb sessionCount s || leb flowCount f)) (not (l .opened s)) (leb (length (l .flows s)) f) (not (flowOf l s f .reach d))
-      (not (some roleCount (λ r. l .holds u r && l .mayRead r d))) (ltb (flowOf l s f .version) (l .version u)) (p u s f)
+module _ (l : Ledger) (links : Product → ℕ → ℕ → ℕ → Bool) (p : Product) (u s f d : ℕ) where
+  met-read : firstMet (readRows l links p u s f d)
+      ≡ firstOf ((leb userCount u || leb databaseCount d) || (leb sessionCount s || leb flowCount f)) (not (l .opened p s)) (leb (length (l .flows p s)) f) (not (flowOf l p s f .reach d))
+      (not (some roleCount (λ r. l .holds u r && l .mayRead r d))) (ltb (flowOf l p s f .version) (l .version u)) (links p u s f)
   unfolding readRows firstMet firstOf
   met-read = refl
 
@@ -74,37 +76,38 @@ below u s f d h =
     (leb-false flowCount f (or-neither (leb sessionCount s) (leb flowCount f) (w .1) .1), leb-false databaseCount d (or-neither (leb userCount u) (leb databaseCount d) (w .0) .1))
 
 -- two tests for row 14 that agree on reads which come to it return the same number
-pub same-rows : (l : Ledger) (p q : ℕ → ℕ → ℕ → Bool) (u s f d : ℕ) → (f < flowCount → f < length (l .flows s) → l .version u ≤ flowOf l s f .version → p u s f ≡ q u s f)
-    → firstMet (readRows l p u s f d) ≡ firstMet (readRows l q u s f d)
-same-rows l p q u s f d h =
-    met-read l p u s f d
-    ∙ same-number _ _ _ _ _ _ _ _ (λ a c i. h (below u s f d a .0) (leb-false (length (l .flows s)) f c) (ltb-false (flowOf l s f .version) (l .version u) i))
-    ∙ sym (met-read l q u s f d)
+pub same-rows : (l : Ledger) (links links′ : Product → ℕ → ℕ → ℕ → Bool) (p : Product) (u s f d : ℕ)
+    → (f < flowCount → f < length (l .flows p s) → l .version u ≤ flowOf l p s f .version → links p u s f ≡ links′ p u s f)
+    → firstMet (readRows l links p u s f d) ≡ firstMet (readRows l links′ p u s f d)
+same-rows l links links′ p u s f d h =
+    met-read l links p u s f d
+    ∙ same-number _ _ _ _ _ _ _ _ (λ a c i. h (below u s f d a .0) (leb-false (length (l .flows p s)) f c) (ltb-false (flowOf l p s f .version) (l .version u) i))
+    ∙ sym (met-read l links′ p u s f d)
 
 -- of a read that meets no row before 14, the number is settled by row 14
-pub last-row : (l : Ledger) (u s f d : ℕ) → earlierRefusal l (Read u s f d) ≡ 0 → refusal l (Read u s f d) ≡ cond (linked l u s f) 14 0
+pub last-row : (l : Ledger) (p : Product) (u s f d : ℕ) → earlierRefusal l (Read p u s f d) ≡ 0 → refusal l (Read p u s f d) ≡ cond (linked l p u s f) 14 0
 unfolding earlierRefusal refusal rows
-last-row l u s f d h = met-read l (linked l) u s f d ∙ settled _ _ _ _ _ _ (linked l u s f) (sym (met-read l (λ v t g. false) u s f d) ∙ h)
+last-row l p u s f d h = met-read l (linked l) p u s f d ∙ settled _ _ _ _ _ _ (linked l p u s f) (sym (met-read l (λ q v t g. false) p u s f d) ∙ h)
 
 -- what is known of a read that meets no row
-record Passed (l : Ledger) (u s f d : ℕ) : Type 0 where
+record Passed (l : Ledger) (p : Product) (u s f d : ℕ) : Type 0 where
   inside : d < databaseCount
-  there : f < length (l .flows s)
-  reached : flowOf l s f .reach d ≡ true
+  there : f < length (l .flows p s)
+  reached : flowOf l p s f .reach d ≡ true
   permitted : some roleCount (λ r. l .holds u r && l .mayRead r d) ≡ true
-  current : l .version u ≤ flowOf l s f .version
-  unlinked : linked l u s f ≡ false
+  current : l .version u ≤ flowOf l p s f .version
+  unlinked : linked l p u s f ≡ false
 
-read-passed : (l : Ledger) (u s f d : ℕ) → refusal l (Read u s f d) ≡ 0 → Passed l u s f d
+read-passed : (l : Ledger) (p : Product) (u s f d : ℕ) → refusal l (Read p u s f d) ≡ 0 → Passed l p u s f d
 unfolding refusal rows
-read-passed l u s f d h =
-    let w = none-met _ _ _ _ _ _ _ (sym (met-read l (linked l) u s f d) ∙ h) in
+read-passed l p u s f d h =
+    let w = none-met _ _ _ _ _ _ _ (sym (met-read l (linked l) p u s f d) ∙ h) in
     record {
       inside = below u s f d (w .0) .1;
-      there = leb-false (length (l .flows s)) f (w .2);
-      reached = not-false (flowOf l s f .reach d) (w .3);
+      there = leb-false (length (l .flows p s)) f (w .2);
+      reached = not-false (flowOf l p s f .reach d) (w .3);
       permitted = not-false (some roleCount (λ r. l .holds u r && l .mayRead r d)) (w .4);
-      current = ltb-false (flowOf l s f .version) (l .version u) (w .5);
+      current = ltb-false (flowOf l p s f .version) (l .version u) (w .5);
       unlinked = w .6;
     }
 
@@ -123,23 +126,23 @@ reads-at l u flow r d k m a b =
     (and-true (e .0) (some-at databaseCount (λ y. flow .reach y && l .mayRead r y) d m (and-true a (e .1))))
 
 -- the role by which a passed read reads
-reader : {l : Ledger} {u s f d : ℕ} → Passed l u s f d → (r : ℕ) × (r < roleCount) × (mayUse l u r d ≡ true)
+reader : {l : Ledger} {p : Product} {u s f d : ℕ} → Passed l p u s f d → (r : ℕ) × (r < roleCount) × (mayUse l u r d ≡ true)
 unfolding mayUse
-reader {l} {u} {s} {f} {d} h = some-of roleCount (λ r. l .holds u r && l .mayRead r d) (h .permitted)
+reader {l} {p} {u} {s} {f} {d} h = some-of roleCount (λ r. l .holds u r && l .mayRead r d) (h .permitted)
 
 -- a passed read's user may statically read its flow
-reads-passed : {l : Ledger} {u s f d : ℕ} → Passed l u s f d → reads l u (flowOf l s f) ≡ true
-reads-passed {l} {u} {s} {f} {d} h = let r = reader h in reads-at l u (flowOf l s f) (r .0) d (r .1) (h .inside) (h .reached) (r .2)
+reads-passed : {l : Ledger} {p : Product} {u s f d : ℕ} → Passed l p u s f d → reads l u (flowOf l p s f) ≡ true
+reads-passed {l} {p} {u} {s} {f} {d} h = let r = reader h in reads-at l u (flowOf l p s f) (r .0) d (r .1) (h .inside) (h .reached) (r .2)
 
 -- a user who holds a denied role of flow b and is not linked there does not read an older flow beside it
-not-both : (l : Ledger) (u s a b : ℕ) → a < b → linked l u s b ≡ false → holdsDenied l u (flowOf l s b) ≡ true
-    → reads l u (flowOf l s a) ≡ true → reads l u (flowOf l s b) ≡ true → ⊥
+not-both : (l : Ledger) (p : Product) (u s a b : ℕ) → a < b → linked l p u s b ≡ false → holdsDenied l u (flowOf l p s b) ≡ true
+    → reads l u (flowOf l p s a) ≡ true → reads l u (flowOf l p s b) ≡ true → ⊥
 unfolding linked readsTwoOf
-not-both l u s a b k h e p q =
-    true≢false (sym (and-true e (le-leb 2 (count (suc b) readable) (count-two (suc b) readable a b (omega arith) (omega arith) (omega arith) p q))) ∙ h)
+not-both l p u s a b k h e v w =
+    true≢false (sym (and-true e (le-leb 2 (count (suc b) readable) (count-two (suc b) readable a b (omega arith) (omega arith) (omega arith) v w))) ∙ h)
   where
     readable : ℕ → Bool
-    readable g = reads l u (flowOf l s g)
+    readable g = reads l u (flowOf l p s g)
 
 -- ---- an older ledger and a later one
 
@@ -152,7 +155,7 @@ pub record Stays (l m : Ledger) (u : ℕ) : Type 0 where
 pub record Since (l m : Ledger) : Type 0 where
   pub rises : l .system ≤ m .system
   -- a flow stays as it was added
-  pub flows : (s f : ℕ) → f < length (l .flows s) → (f < length (m .flows s)) × (flowOf m s f ≡ flowOf l s f)
+  pub flows : (p : Product) (s f : ℕ) → f < length (l .flows p s) → (f < length (m .flows p s)) × (flowOf m p s f ≡ flowOf l p s f)
   -- a user's version rose above the system's of then, or the user got nothing
   pub users : (u : ℕ) → (l .system < m .version u) ⊎ Stays l m u
 
@@ -160,15 +163,15 @@ stays-now : (l : Ledger) (u : ℕ) → Stays l l u
 stays-now l u = record { version = refl; held = λ r h. h; readers = λ r h d. refl }
 
 since-now : (l : Ledger) → Since l l
-since-now l = record { rises = omega arith; flows = λ s f k. (k, refl); users = λ u. inr (stays-now l u) }
+since-now l = record { rises = omega arith; flows = λ p s f k. (k, refl); users = λ u. inr (stays-now l u) }
 
 since-both : (l m n : Ledger) → Since l m → Since m n → Since l n
 since-both l m n a b = record {
   rises = omega (arith, a .rises, b .rises);
-  flows = λ s f k.
-      let p = a .flows s f k in
-      let q = b .flows s f (p .0) in
-      (q .0, q .1 ∙ p .1);
+  flows = λ p s f k.
+      let v = a .flows p s f k in
+      let w = b .flows p s f (v .0) in
+      (w .0, w .1 ∙ v .1);
   users = λ u. go u (a .users u) (b .users u);
 }
   where
@@ -183,8 +186,8 @@ since-both l m n a b = record {
 
 -- every flow's version is at most the system's, and a session that is not open has no flows
 pub record Ordered (l : Ledger) : Type 0 where
-  pub flows : (s f : ℕ) → f < length (l .flows s) → flowOf l s f .version ≤ l .system
-  pub shut : (s : ℕ) → l .opened s ≡ false → l .flows s ≡ []
+  pub flows : (p : Product) (s f : ℕ) → f < length (l .flows p s) → flowOf l p s f .version ≤ l .system
+  pub shut : (p : Product) (s : ℕ) → l .opened p s ≡ false → l .flows p s ≡ []
 
 -- ---- pairs entered and struck out
 
@@ -260,13 +263,13 @@ module _ (l : Ledger) (c : Change) where
 
   since-change : Since l (taken l (Table c))
   unfolding flowOf
-  since-change = record { rises = change-rises; flows = λ s f k. rw change-flows (k, refl); users = change-users }
+  since-change = record { rises = change-rises; flows = λ p s f k. rw change-flows (k, refl); users = change-users }
 
   ordered-change : Ordered l → Ordered (taken l (Table c))
   unfolding flowOf taken renewed
   ordered-change o = record {
-    flows = λ s f. rw change-flows (λ k. omega (arith, o .flows s f k, change-rises));
-    shut = λ s. rw (entered-rest l c .2, change-flows) (o .shut s);
+    flows = λ p s f. rw change-flows (λ k. omega (arith, o .flows p s f k, change-rises));
+    shut = λ p s. rw (entered-rest l c .2, change-flows) (o .shut p s);
   }
 
 -- a change that takes nothing from the user leaves what the user may read
@@ -283,52 +286,57 @@ change-leaves l (Forward x y) u r d n h = h
 -- ---- what is asked of a session
 
 -- the rest of the ledger
-asked-rest : (l : Ledger) (s : ℕ) (a : Ask) → (asked l s a .system ≡ l .system) × (asked l s a .version ≡ l .version) × (asked l s a .holds ≡ l .holds) × (asked l s a .mayRead ≡ l .mayRead)
+asked-rest : (l : Ledger) (p : Product) (s : ℕ) (a : Ask)
+    → (asked l p s a .system ≡ l .system) × (asked l p s a .version ≡ l .version) × (asked l p s a .holds ≡ l .holds) × (asked l p s a .mayRead ≡ l .mayRead)
 unfolding asked withFlows
-asked-rest l s Open = (refl, refl, refl, refl)
-asked-rest l s (Conflicting d) = (refl, refl, refl, refl)
-asked-rest l s (Add d m) = (refl, refl, refl, refl)
-asked-rest l s (Show f) = (refl, refl, refl, refl)
+asked-rest l p s Open = (refl, refl, refl, refl)
+asked-rest l p s (Conflicting d) = (refl, refl, refl, refl)
+asked-rest l p s (Add d m) = (refl, refl, refl, refl)
+asked-rest l p s (Show f) = (refl, refl, refl, refl)
 
 -- an accepted opening is of a session that is not open
-opens-shut : (l : Ledger) (s : ℕ) → accepts l (Session s Open) ≡ true → l .opened s ≡ false
+opens-shut : (l : Ledger) (p : Product) (s : ℕ) → accepts l (Session p s Open) ≡ true → l .opened p s ≡ false
 unfolding accepts refusal rows askRows
-opens-shut l s h = not-met 2 _ _ (not-met 1 _ _ (eqb-true (refusal l (Session s Open)) 0 h) .1) .0
+opens-shut l p s h = not-met 2 _ _ (not-met 1 _ _ (eqb-true (refusal l (Session p s Open)) 0 h) .1) .0
+
+-- two sessions are one where the products are and the numbers are
+pub one-session : (q p : Product) (t s : ℕ) → (same q p && eqb t s) ≡ true → (q ≡ p) × (t ≡ s)
+one-session q p t s h = let w = and-both (same q p) (eqb t s) h in (same-is q p (w .0), eqb-true t s (w .1))
 
 -- m's flows of session s are l's, or those and one more, whose version is l's system version
-Longer : Ledger → ℕ → Ledger → Type 0
-Longer l s m = (m .flows s ≡ l .flows s) ⊎ ((flow : Flow) × (flow .version ≡ l .system) × (m .flows s ≡ l .flows s ++ (flow ∷ [])))
+Longer : Ledger → Product → ℕ → Ledger → Type 0
+Longer l p s m = (m .flows p s ≡ l .flows p s) ⊎ ((flow : Flow) × (flow .version ≡ l .system) × (m .flows p s ≡ l .flows p s ++ (flow ∷ [])))
 
-asked-flows : (l : Ledger) (s : ℕ) (a : Ask) (t : ℕ) → Ordered l → accepts l (Session s a) ≡ true → Longer l t (asked l s a)
+asked-flows : (l : Ledger) (p : Product) (s : ℕ) (a : Ask) (q : Product) (t : ℕ) → Ordered l → accepts l (Session p s a) ≡ true → Longer l q t (asked l p s a)
 unfolding Longer asked withFlows newFlow
-asked-flows l s Open t o h = inl (go (eqb t s) refl)
+asked-flows l p s Open q t o h = inl (go (same q p && eqb t s) refl)
   where
-    go : (b : Bool) → eqb t s ≡ b → cond b [] (l .flows t) ≡ l .flows t
-    go true e = rw (eqb-true t s e) (sym (o .shut s (opens-shut l s h)))
+    go : (b : Bool) → (same q p && eqb t s) ≡ b → cond b [] (l .flows q t) ≡ l .flows q t
+    go true e = let w = one-session q p t s e in rw (w .0, w .1) (sym (o .shut p s (opens-shut l p s h)))
     go false e = refl
-asked-flows l s (Conflicting d) t o h = inl refl
-asked-flows l s (Add d m) t o h = go (eqb t s) refl
+asked-flows l p s (Conflicting d) q t o h = inl refl
+asked-flows l p s (Add d m) q t o h = go (same q p && eqb t s) refl
   where
     new : Flow
-    new = newFlow l s d m
+    new = newFlow l p s d m
 
-    go : (b : Bool) → eqb t s ≡ b → (cond b (l .flows s ++ (new ∷ [])) (l .flows t) ≡ l .flows t)
-        ⊎ ((flow : Flow) × (flow .version ≡ l .system) × (cond b (l .flows s ++ (new ∷ [])) (l .flows t) ≡ l .flows t ++ (flow ∷ [])))
-    go true e = inr (new, refl, rw (eqb-true t s e))
+    go : (b : Bool) → (same q p && eqb t s) ≡ b → (cond b (l .flows p s ++ (new ∷ [])) (l .flows q t) ≡ l .flows q t)
+        ⊎ ((flow : Flow) × (flow .version ≡ l .system) × (cond b (l .flows p s ++ (new ∷ [])) (l .flows q t) ≡ l .flows q t ++ (flow ∷ [])))
+    go true e = let w = one-session q p t s e in inr (new, refl, rw (w .0, w .1))
     go false e = inl refl
-asked-flows l s (Show f) t o h = inl refl
+asked-flows l p s (Show f) q t o h = inl refl
 
-asked-shut : (l : Ledger) (s : ℕ) (a : Ask) → Ordered l → (t : ℕ) → asked l s a .opened t ≡ false → asked l s a .flows t ≡ []
+asked-shut : (l : Ledger) (p : Product) (s : ℕ) (a : Ask) → Ordered l → (q : Product) (t : ℕ) → asked l p s a .opened q t ≡ false → asked l p s a .flows q t ≡ []
 unfolding asked withFlows
-asked-shut l s Open o t h = let w = or-neither (l .opened t) (eqb t s) h in rw (w .1) (o .shut t (w .0))
-asked-shut l s (Conflicting d) o t h = o .shut t h
-asked-shut l s (Add d m) o t h = let w = or-neither (l .opened t) (eqb t s) h in rw (w .1) (o .shut t (w .0))
-asked-shut l s (Show f) o t h = o .shut t h
+asked-shut l p s Open o q t h = let w = or-neither (l .opened q t) (same q p && eqb t s) h in rw (w .1) (o .shut q t (w .0))
+asked-shut l p s (Conflicting d) o q t h = o .shut q t h
+asked-shut l p s (Add d m) o q t h = let w = or-neither (l .opened q t) (same q p && eqb t s) h in rw (w .1) (o .shut q t (w .0))
+asked-shut l p s (Show f) o q t h = o .shut q t h
 
-longer-keeps : (l m : Ledger) (s f : ℕ) → Longer l s m → f < length (l .flows s) → (f < length (m .flows s)) × (flowOf m s f ≡ flowOf l s f)
+longer-keeps : (l m : Ledger) (p : Product) (s f : ℕ) → Longer l p s m → f < length (l .flows p s) → (f < length (m .flows p s)) × (flowOf m p s f ≡ flowOf l p s f)
 unfolding Longer flowOf
-longer-keeps l m s f (inl e) k = rw e (k, refl)
-longer-keeps l m s f (inr (flow, v, e)) k = rw e (omega (arith, length-append (l .flows s) (flow ∷ [])), List·getD-append (l .flows s) (flow ∷ []) _ f k)
+longer-keeps l m p s f (inl e) k = rw e (k, refl)
+longer-keeps l m p s f (inr (flow, v, e)) k = rw e (omega (arith, length-append (l .flows p s) (flow ∷ [])), List·getD-append (l .flows p s) (flow ∷ []) _ f k)
 
 -- one flow more, whose version is not above n either
 one-flow-more : (flows : List Flow) (new none : Flow) (n f : ℕ) → (f < length flows → getD flows f none .version ≤ n) → new .version ≤ n
@@ -339,27 +347,27 @@ one-flow-more flows new none n f h v k = go (decLt f (length flows))
     go (yes i) = rw (List·getD-append flows (new ∷ []) none f i) (h i)
     go (no i) = rw (getD-at flows new [] none f (omega (arith, length-append flows (new ∷ [])))) v
 
-longer-ordered : (l m : Ledger) (s f : ℕ) → Ordered l → m .system ≡ l .system → Longer l s m → f < length (m .flows s) → flowOf m s f .version ≤ m .system
+longer-ordered : (l m : Ledger) (p : Product) (s f : ℕ) → Ordered l → m .system ≡ l .system → Longer l p s m → f < length (m .flows p s) → flowOf m p s f .version ≤ m .system
 unfolding Longer flowOf
-longer-ordered l m s f o n (inl e) = rw e (λ k. omega (arith, o .flows s f k))
-longer-ordered l m s f o n (inr (flow, v, e)) = rw e (one-flow-more (l .flows s) flow _ (m .system) f (λ k. omega (arith, o .flows s f k)) (omega arith))
+longer-ordered l m p s f o n (inl e) = rw e (λ k. omega (arith, o .flows p s f k))
+longer-ordered l m p s f o n (inr (flow, v, e)) = rw e (one-flow-more (l .flows p s) flow _ (m .system) f (λ k. omega (arith, o .flows p s f k)) (omega arith))
 
-module _ (l : Ledger) (s : ℕ) (a : Ask) (o : Ordered l) (h : accepts l (Session s a) ≡ true) where
-  since-ask : Since l (asked l s a)
+module _ (l : Ledger) (p : Product) (s : ℕ) (a : Ask) (o : Ordered l) (h : accepts l (Session p s a) ≡ true) where
+  since-ask : Since l (asked l p s a)
   since-ask = record {
-    rises = omega (arith, asked-rest l s a .0);
-    flows = λ t f k. longer-keeps l (asked l s a) t f (asked-flows l s a t o h) k;
+    rises = omega (arith, asked-rest l p s a .0);
+    flows = λ q t f k. longer-keeps l (asked l p s a) q t f (asked-flows l p s a q t o h) k;
     users = λ u. inr (record {
-      version = rw (asked-rest l s a .1);
-      held = λ r. rw (asked-rest l s a .2) (λ t. t);
-      readers = λ r t d. rw (asked-rest l s a .3);
+      version = rw (asked-rest l p s a .1);
+      held = λ r. rw (asked-rest l p s a .2) (λ t. t);
+      readers = λ r t d. rw (asked-rest l p s a .3);
     });
   }
 
-  ordered-ask : Ordered (asked l s a)
+  ordered-ask : Ordered (asked l p s a)
   ordered-ask = record {
-    flows = λ t f k. longer-ordered l (asked l s a) t f o (asked-rest l s a .0) (asked-flows l s a t o h) k;
-    shut = asked-shut l s a o;
+    flows = λ q t f k. longer-ordered l (asked l p s a) q t f o (asked-rest l p s a .0) (asked-flows l p s a q t o h) k;
+    shut = asked-shut l p s a o;
   }
 
 -- ---- any call
@@ -376,8 +384,8 @@ step-by P l c h f = go (accepts l c) refl
 since-taken : (l : Ledger) (c : Call) → Ordered l → accepts l c ≡ true → Since l (taken l c)
 unfolding taken
 since-taken l (Table c) o h = since-change l c
-since-taken l (Session s a) o h = since-ask l s a o h
-since-taken l (Read u s f d) o h = since-now l
+since-taken l (Session p s a) o h = since-ask l p s a o h
+since-taken l (Read p u s f d) o h = since-now l
 since-taken l Unreadable o h = since-now l
 
 pub since-step : (l : Ledger) (c : Call) → Ordered l → Since l (ledgerStep l c)
@@ -386,8 +394,8 @@ since-step l c o = step-by (Since l) l c (since-now l) (since-taken l c o)
 ordered-taken : (l : Ledger) (c : Call) → Ordered l → accepts l c ≡ true → Ordered (taken l c)
 unfolding taken
 ordered-taken l (Table c) o h = ordered-change l c o
-ordered-taken l (Session s a) o h = ordered-ask l s a o h
-ordered-taken l (Read u s f d) o h = o
+ordered-taken l (Session p s a) o h = ordered-ask l p s a o h
+ordered-taken l (Read p u s f d) o h = o
 ordered-taken l Unreadable o h = o
 
 pub ordered-step : (l : Ledger) (c : Call) → Ordered l → Ordered (ledgerStep l c)
@@ -395,7 +403,7 @@ ordered-step l c o = step-by Ordered l c o (ordered-taken l c o)
 
 pub ordered-start : Ordered start
 unfolding start
-ordered-start = record { flows = λ s f k. absurd (omega arith); shut = λ s h. refl }
+ordered-start = record { flows = λ p s f k. absurd (omega arith); shut = λ p s h. refl }
 
 -- the call takes nothing from the user, as only an accepted change of the tables can
 Spares : Ledger → ℕ → Call → Type 0
@@ -404,8 +412,8 @@ Spares l u x = (c : Change) → x ≡ Table c → accepts l (Table c) ≡ true �
 taken-leaves : (l : Ledger) (x : Call) (u r d : ℕ) → Spares l u x → accepts l x ≡ true → mayUse l u r d ≡ true → mayUse (taken l x) u r d ≡ true
 unfolding Spares taken mayUse
 taken-leaves l (Table c) u r d n a h = change-leaves l c u r d (n c refl a) h
-taken-leaves l (Session s b) u r d n a h = rw (asked-rest l s b .2, asked-rest l s b .3) h
-taken-leaves l (Read w s f y) u r d n a h = h
+taken-leaves l (Session p s b) u r d n a h = rw (asked-rest l p s b .2, asked-rest l p s b .3) h
+taken-leaves l (Read p w s f y) u r d n a h = h
 taken-leaves l Unreadable u r d n a h = h
 
 step-leaves : (l : Ledger) (x : Call) (u r d : ℕ) → Spares l u x → mayUse l u r d ≡ true → mayUse (ledgerStep l x) u r d ≡ true
@@ -454,15 +462,15 @@ left-at cs i j u r d l m n h =
 
 -- ---- demand 3, first half
 
-pub first-half : (cs : List Call) (i j u s f g d e : ℕ) → i < j → j < length cs
-    → callAt cs i ≡ Read u s f d → callAt cs j ≡ Read u s g e → f ≢ g
-    → refusal (ledgerAt cs i) (Read u s f d) ≡ 0 → refusal (ledgerAt cs j) (Read u s g e) ≡ 0
-    → (f < g → holdsDenied (ledgerAt cs j) u (flowOf (ledgerAt cs j) s g) ≡ true)
-    → (g < f → holdsDenied (ledgerAt cs i) u (flowOf (ledgerAt cs i) s f) ≡ true)
+pub first-half : (cs : List Call) (p : Product) (i j u s f g d e : ℕ) → i < j → j < length cs
+    → callAt cs i ≡ Read p u s f d → callAt cs j ≡ Read p u s g e → f ≢ g
+    → refusal (ledgerAt cs i) (Read p u s f d) ≡ 0 → refusal (ledgerAt cs j) (Read p u s g e) ≡ 0
+    → (f < g → holdsDenied (ledgerAt cs j) u (flowOf (ledgerAt cs j) p s g) ≡ true)
+    → (g < f → holdsDenied (ledgerAt cs i) u (flowOf (ledgerAt cs i) p s f) ≡ true)
     → ((k : ℕ) (c : Change) → i < k → k < j → callAt cs k ≡ Table c → accepts (ledgerAt cs k) (Table c) ≡ true → takesFrom (ledgerAt cs k) u c ≡ false)
     → ⊥
 unfolding Spares mayUse
-first-half cs i j u s f g d e l m p q n a b x y z = go (decLt f g)
+first-half cs p i j u s f g d e l m v w n a b x y z = go (decLt f g)
   where
     then : Ledger
     then = ledgerAt cs i
@@ -471,11 +479,11 @@ first-half cs i j u s f g d e l m p q n a b x y z = go (decLt f g)
     now = ledgerAt cs j
 
     -- the first read and the second
-    one : Passed then u s f d
-    one = read-passed then u s f d a
+    one : Passed then p u s f d
+    one = read-passed then p u s f d a
 
-    two : Passed now u s g e
-    two = read-passed now u s g e b
+    two : Passed now p u s g e
+    two = read-passed now p u s g e b
 
     since : Since then now
     since = since-at cs i j (omega arith) (omega arith)
@@ -485,39 +493,39 @@ first-half cs i j u s f g d e l m p q n a b x y z = go (decLt f g)
     nothing k h t c r = from (decLt i k)
       where
         from : Dec (i < k) → accepts (ledgerAt cs k) (Table c) ≡ true → takesFrom (ledgerAt cs k) u c ≡ false
-        from (yes w) = z k c w t r
-        from (no w) =
-            let v : i ≡ k = omega arith in
-            let o : Read u s f d ≡ Table c = sym p ∙ ap (callAt cs) v ∙ r in
+        from (yes x) = z k c x t r
+        from (no x) =
+            let y : i ≡ k = omega arith in
+            let o : Read p u s f d ≡ Table c = sym v ∙ ap (callAt cs) y ∙ r in
             let y : _≡_ {A = ℕ} 0 1 = cc in
             absurd (omega arith)
 
     -- the older flow f is still readable at the second read
-    still : reads now u (flowOf now s f) ≡ true
+    still : reads now u (flowOf now p s f) ≡ true
     still =
         let r = reader one in
-        rw (since .flows s f (one .there) .1)
-        (reads-at now u (flowOf then s f) (r .0) d (r .1) (one .inside) (one .reached) (left-at cs i j u (r .0) d (omega arith) (omega arith) nothing (r .2)))
+        rw (since .flows p s f (one .there) .1)
+        (reads-at now u (flowOf then p s f) (r .0) d (r .1) (one .inside) (one .reached) (left-at cs i j u (r .0) d (omega arith) (omega arith) nothing (r .2)))
 
     -- the older flow g was readable at the first read: nothing new came to the user since, or row 13 would be met by the second
-    already : g < f → reads then u (flowOf then s g) ≡ true
+    already : g < f → reads then u (flowOf then p s g) ≡ true
     already k =
         let r = reader two in
         let w = and-both (now .holds u (r .0)) (now .mayRead (r .0) e) (r .2) in
         ⊎-elim
         (λ c.
-        let v : now .version u ≤ flowOf then s g .version = rw same at (two .current) in
-        absurd (omega (arith, ordered-at cs i .flows s g older)))
-        (λ c. reads-at then u (flowOf then s g) (r .0) e (r .1) (two .inside) (rw same at (two .reached))
+        let v : now .version u ≤ flowOf then p s g .version = rw same at (two .current) in
+        absurd (omega (arith, ordered-at cs i .flows p s g older)))
+        (λ c. reads-at then u (flowOf then p s g) (r .0) e (r .1) (two .inside) (rw same at (two .reached))
         (and-true (c .held (r .0) (w .0)) (sym (c .readers (r .0) (w .0) e) ∙ w .1)))
         (since .users u)
       where
-        older : g < length (then .flows s)
+        older : g < length (then .flows p s)
         older = omega (arith, one .there)
 
-        same : flowOf now s g ≡ flowOf then s g
-        same = since .flows s g older .1
+        same : flowOf now p s g ≡ flowOf then p s g
+        same = since .flows p s g older .1
 
     go : Dec (f < g) → ⊥
-    go (yes k) = not-both now u s f g k (two .unlinked) (x k) still (reads-passed two)
-    go (no k) = let t : g < f = omega arith in not-both then u s g f t (one .unlinked) (y t) (already t) (reads-passed one)
+    go (yes k) = not-both now p u s f g k (two .unlinked) (x k) still (reads-passed two)
+    go (no k) = let t : g < f = omega arith in not-both then p u s g f t (one .unlinked) (y t) (already t) (reads-passed one)

@@ -1,4 +1,6 @@
 pub mod Laws
+pub mod Apart
+pub mod Alike
 pub mod Invariants
 pub mod Chains
 pub mod Granted
@@ -10,3 +12,5 @@ pub mod Meaning
 pub mod Lasting
 pub mod Kept
 pub mod Demands
+pub mod Closing
+pub mod Products

@@ -27,24 +27,35 @@ use Rattle.model.specs.declared.calls.Refusal.{Refusal}
 use Rattle.model.specs.declared.calls.Refusal.the-variants.{AboveLimit, NotOpen, NoSuchFlow, OutOfReach, NoPermission, Changed, Linkable}
 use Rattle.model.specs.declared.calls.Change.{Change}
 use Rattle.model.specs.declared.calls.Change.the-variants.{Assign, Withdraw, Permit, Revoke, Forward}
+use Rattle.model.specs.declared.calls.Product.{Product}
 use Rattle.model.specs.declared.calls.Ask.the-variants.{Open, Conflicting, Add, Show}
 use Rattle.model.specs.declared.calls.Call.{Call}
 use Rattle.model.specs.declared.calls.Call.the-variants.{Table, Session, Read, Unreadable}
 use Rattle.model.specs.declared.calls.Verdict.{Verdict}
 use Rattle.model.specs.declared.calls.Verdict.the-variants.{Granted, Refused}
 use Rattle.model.specs.Limits.{sessionCount, flowCount}
-use Rattle.model.specs.State.{placeCount}
+use Rattle.model.specs.State.{allSessions, sessionAt, placeCount}
 use Rattle.model.specs.State.{fresh, engineOf, filled, place, reachWith, conflicts, outside, denyBefore, roleSet, linkable, rolesetAt, newVersion}
 use Rattle.model.specs.Calls.{numberOf, returned, verdictOf, withTables, toHolders, bar, conflictsIn, withFlow, show, links, read, answerOf, ask, step, answer, verdict, after, constraintAt, shownBy}
 use Rattle.model.specs.Demands.{engineAfter, engineAt}
-use Rattle.model.specs.Meaning.{One, Meets, flowsOf, reachOf, versionOf, denyOf, rolesOf, heldOf, userVersion, ReadsTwo, Links, SetsMean, countedIn, QueryMeans}
+use Rattle.model.specs.Meaning.{One, Meets, NumbersMean, flowsOf, reachOf, versionOf, denyOf, rolesOf, heldOf, userVersion, ReadsTwo, Links, SetsMean, countedIn, QueryMeans}
 use Rattle.model.specs.Meaning.{Renewed, RenewedHolders, Changes, SameFlow, Opened, Added, Means, ValueMeans, Checked, ReadMeans, ShowMeans, FreshMeans}
-use Rattle.model.proofs.Laws.{getD-same, getD-filled, getD-given, places, place-lt, roleset-put, roleset-stays}
+use Rattle.model.proofs.Laws.{getD-same, getD-filled, getD-given, session-within, session-above, session-limit, session-one, places, place-lt, roleset-put, roleset-stays}
 use Rattle.model.proofs.Invariants.{Sized}
 use Rattle.model.proofs.Chains.{refused-answer}
 use Rattle.model.proofs.Granted.{changedTables, givenBy, changedDirectory, sessionOpened, changedSessions, askAnswer, changed, accepted}
+use Rattle.model.proofs.Ledgers.{one-session}
 use Rattle.model.proofs.SeenRows.{granted-after, granted-answer, within-open, within-add}
 use Rattle.model.proofs.Seen.{given-lengths, sized-fresh, sized-after}
+
+-- ---- the sessions' numbers
+
+pub numbers-mean : NumbersMean
+numbers-mean = record {
+  within = session-within;
+  above = session-above;
+  apart = λ p q s t l m e. one-session p q s t (sym (session-one p q s t m) ∙ eq-eqb (sessionAt p s) (sessionAt q t) e);
+}
 
 -- ---- the sets, over their sizes
 
@@ -140,13 +151,13 @@ counted-new : (e : Engine) (s root : ℕ) → countedIn e s root (flowsOf e s) �
 unfolding reachWith
 counted-new e s root = rw (le-ltb (flowsOf e s) (flowsOf e s) (omega arith), eq-eqb (flowsOf e s) (flowsOf e s) refl)
 
-pub query-means : (e : Engine) (s root : ℕ) → QueryMeans e s root
+pub query-means : (e : Engine) (p : Product) (s root : ℕ) → QueryMeans e p s root
 unfolding conflictsIn accepted askAnswer
-query-means e s root = record {
-  conflicting = λ c. conflicts-mean roleCount userCount databaseCount (e .directory .tables) (suc (flowsOf e s)) (countedIn e s root) c;
-  older = counted-old e s root;
-  newest = counted-new e s root;
-  answered = λ h. granted-answer e (Session s (Conflicting root)) h;
+query-means e p s root = record {
+  conflicting = λ c. conflicts-mean roleCount userCount databaseCount (e .directory .tables) (suc (flowsOf e (sessionAt p s))) (countedIn e (sessionAt p s) root) c;
+  older = counted-old e (sessionAt p s) root;
+  newest = counted-new e (sessionAt p s) root;
+  answered = λ h. granted-answer e (Session p s (Conflicting root)) h;
 }
 
 -- ---- an addition
@@ -166,7 +177,7 @@ roleSet-none T deny =
     ∙ sym (ap (λ (b : Bool). b && has (parentsOf roleCount userCount (T .roles) deny) r)
     (has-setOf roleCount _ r l ∙ some-nowhere databaseCount _ (λ d m. ap (λ (b : Bool). b && there (T .readers) d r) (has-empty d))))))
 
-module _ (e : Engine) (z : Sized e) (s root chosen : ℕ) (sl : s < sessionCount) (nl : flowsOf e s < flowCount) where
+module _ (e : Engine) (z : Sized e) (s root chosen : ℕ) (sl : s < allSessions) (nl : flowsOf e s < flowCount) where
   n : ℕ
   n = flowsOf e s
 
@@ -177,14 +188,14 @@ module _ (e : Engine) (z : Sized e) (s root chosen : ℕ) (sl : s < sessionCount
   deny = joined roleCount (denyBefore (e .sessions .denies) s n) chosen
 
   x : Engine
-  x = changed e (Session s (Add root chosen))
+  x = engineOf (e .directory) (changedSessions (e .directory) (e .sessions) s (Add root chosen))
 
   inside : place s n < placeCount
   unfolding n
   inside = place-lt s n sl nl
 
   older : (t f : ℕ) → f < flowCount → (t ≡ s → f ≡ n → ⊥) → SameFlow e x t f
-  unfolding n new deny x changed changedSessions withFlow
+  unfolding n new deny x changedSessions withFlow
   older t f l d =
       let q = places t f s n l nl d in
       record {
@@ -196,15 +207,15 @@ module _ (e : Engine) (z : Sized e) (s root chosen : ℕ) (sl : s < sessionCount
       }
 
   its-reach : reachOf x s n ≡ new
-  unfolding n new deny x changed changedSessions withFlow
+  unfolding n new deny x changedSessions withFlow
   its-reach = getD-set-same (e .sessions .reaches) (place s n) new 0 (rw (z .reaches) inside)
 
   its-deny : denyOf x s n ≡ deny
-  unfolding n new deny x changed changedSessions withFlow
+  unfolding n new deny x changedSessions withFlow
   its-deny = getD-set-same (e .sessions .denies) (place s n) deny 0 (rw (z .denies) inside)
 
   its-roles : (g : ℕ) → g < flowCount → rolesOf x s n g ≡ roleSet roleCount userCount databaseCount (e .directory .tables) deny (countedIn e s root g)
-  unfolding n new deny x changed changedSessions withFlow
+  unfolding n new deny x changedSessions withFlow
   its-roles g l = roleset-put (e .sessions .rolesets) s n _ g (z .rolesets) sl nl l
 
   -- the reach that the addition went by is the flow's
@@ -228,7 +239,7 @@ module _ (e : Engine) (z : Sized e) (s root chosen : ℕ) (sl : s < sessionCount
       )
 
   flow-added : Added e x s root chosen
-  unfolding n new deny x changed changedSessions withFlow reachWith
+  unfolding n new deny x changedSessions withFlow reachWith
   flow-added = record {
     counted = getD-set-same (e .sessions .counts) s (n + 1) 0 (rw (z .counts) sl);
     elsewhere = λ t d. getD-set-other (e .sessions .counts) s t (n + 1) 0 d;
@@ -243,9 +254,10 @@ module _ (e : Engine) (z : Sized e) (s root chosen : ℕ) (sl : s < sessionCount
     opened = refl;
   }
 
-pub added : (e : Engine) (s root chosen : ℕ) → Sized e → verdict e (Session s (Add root chosen)) ≡ Granted → Added e (changed e (Session s (Add root chosen))) s root chosen
-unfolding x
-added e s root chosen z h = let w = within-add e s root chosen h in flow-added e z s root chosen (w .0) (w .4)
+pub added : (e : Engine) (p : Product) (s root chosen : ℕ) → Sized e → verdict e (Session p s (Add root chosen)) ≡ Granted
+    → Added e (changed e (Session p s (Add root chosen))) (sessionAt p s) root chosen
+unfolding x changed
+added e p s root chosen z h = let w = within-add e p s root chosen h in flow-added e z (sessionAt p s) root chosen (session-within p s (w .0)) (w .4)
 
 -- ---- new versions
 
@@ -285,8 +297,8 @@ changes e (Forward d x) z = (refl, record { stays = refl; kept = refl })
 
 -- ---- an opening
 
-opened : (e : Engine) (s : ℕ) → flowsOf e s ≡ 0 → Opened e (changed e (Session s Open)) s
-unfolding changed changedSessions sessionOpened
+opened : (e : Engine) (s : ℕ) → flowsOf e s ≡ 0 → Opened e (engineOf (e .directory) (sessionOpened (e .sessions) s)) s
+unfolding sessionOpened
 opened e s n =
     record {
       opened = λ t l. entered t (has-inserted 64 (e .sessions .opened) s t (omega arith));
@@ -308,11 +320,11 @@ opened e s n =
 pub means : (e : Engine) (c : Call) → Sized e → verdict e c ≡ Granted → Means e (changed e c) c
 unfolding changed changedSessions verdict answer step verdictOf
 means e (Table c) z h = (changes e c (z .users), refl)
-means e (Session s Open) z h = let w = within-open e s h in opened e s (z .shut s (w .0) (w .1))
-means e (Session s (Conflicting root)) z h = refl
-means e (Session s (Add root chosen)) z h = added e s root chosen z h
-means e (Session s (Show f)) z h = refl
-means e (Read u s f d) z h = refl
+means e (Session p s Open) z h = let w = within-open e p s h in opened e (sessionAt p s) (z .shut (sessionAt p s) (session-within p s (w .0)) (w .1))
+means e (Session p s (Conflicting root)) z h = refl
+means e (Session p s (Add root chosen)) z h = added e p s root chosen z h
+means e (Session p s (Show f)) z h = refl
+means e (Read p u s f d) z h = refl
 means e Unreadable z h = let q : _≡_ {A = ℕ} 0 1 = cc in omega arith
 
 sized-later : (e : Engine) (cs : List Call) → Sized e → Sized (engineAfter e cs)
@@ -330,13 +342,13 @@ call-means cs i c h = rw (granted-after (engineAt cs i) c h) (means (engineAt cs
 
 -- and for any engine by value
 pub value-means : (e : Engine) → ValueMeans e
-unfolding after step ask changed
+unfolding after step ask changed changedSessions
 value-means e = record {
   change = λ c z h. rw (granted-after e (Table c) h) (changes e c z, refl);
-  opening = λ s n h. rw (granted-after e (Session s Open) h) (opened e s n);
-  query = λ s root. refl;
-  shown = λ s f. refl;
-  read = λ u s f d. refl;
+  opening = λ p s n h. rw (granted-after e (Session p s Open) h) (opened e (sessionAt p s) n);
+  query = λ p s root. refl;
+  shown = λ p s f. refl;
+  read = λ p u s f d. refl;
 }
 
 -- ---- 0a
@@ -344,11 +356,11 @@ value-means e = record {
 filled-from-0 : (p : ℕ → ℕ) (n : ℕ) (l : List ℕ) (i : ℕ) → n ≤ length l → i < n → getD (filled 0 p n l) i 0 ≡ p i
 filled-from-0 p n l i h k = let q : 0 + i ≡ i = omega arith in rw q at (getD-filled 0 p n l i (omega arith) k)
 
-pub show-means : (e : Engine) (s f : ℕ) → ShowMeans e s f
+pub show-means : (e : Engine) (p : Product) (s f : ℕ) → ShowMeans e p s f
 unfolding verdict answer step ask accepted askAnswer shownBy constraintAt
-show-means e s f = record {
-  refused = λ why h. rw (h, refused-answer (show (e .sessions) s f) why h);
-  granted = λ h. rw h (granted-answer e (Session s (Show f)) h, refl, refl, λ g l. filled-from-0 (rolesetAt (e .sessions .rolesets) s f) flowCount (replicate flowCount 0) g (omega arith) l);
+show-means e p s f = record {
+  refused = λ why h. rw (h, refused-answer (show (e .sessions) (sessionAt p s) f) why h);
+  granted = λ h. rw h (granted-answer e (Session p s (Show f)) h, refl, refl, λ g l. filled-from-0 (rolesetAt (e .sessions .rolesets) (sessionAt p s) f) flowCount (replicate flowCount 0) g (omega arith) l);
 }
 
 -- ---- the verdict on a read
@@ -400,71 +412,71 @@ unfolding verdictOf answerOf
 verdict-read Granted = refl
 verdict-read (Refused why) = refl
 
-module _ (e : Engine) (u s f d : ℕ) where
-  is-read : verdict e (Read u s f d) ≡ read (e .directory) (e .sessions) u s f d
+module _ (e : Engine) (p : Product) (u s f d : ℕ) where
+  is-read : verdict e (Read p u s f d) ≡ read (e .directory) (e .sessions) u (sessionAt p s) f d
   unfolding verdict answer step
-  is-read = verdict-read (read (e .directory) (e .sessions) u s f d)
+  is-read = verdict-read (read (e .directory) (e .sessions) u (sessionAt p s) f d)
 
   changedTest : Bool
-  changedTest = ltb (versionOf e s f) (userVersion e u)
+  changedTest = ltb (versionOf e (sessionAt p s) f) (userVersion e u)
 
   linkableTest : Bool
-  linkableTest = links (e .sessions) s f (heldOf e u)
+  linkableTest = links (e .sessions) (sessionAt p s) f (heldOf e u)
 
   -- a verdict by a later row than 12 passed the others
-  checked : (v : Verdict) → Late v → verdict e (Read u s f d) ≡ v → Checked e u s f d × (lastRows changedTest linkableTest ≡ v)
+  checked : (v : Verdict) → Late v → verdict e (Read p u s f d) ≡ v → Checked e p u s f d × (lastRows changedTest linkableTest ≡ v)
   unfolding read numberOf lastRows changedTest linkableTest there
   checked v late h =
       let a = passed-over (leb userCount u) AboveLimit _ v (late AboveLimit (omega arith)) (sym is-read ∙ h) in
       let b = passed-over (leb databaseCount d) AboveLimit _ v (late AboveLimit (omega arith)) (a .1) in
-      let c = passed-over (leb sessionCount s) AboveLimit _ v (late AboveLimit (omega arith)) (b .1) in
+      let c = passed-over (leb allSessions (sessionAt p s)) AboveLimit _ v (late AboveLimit (omega arith)) (b .1) in
       let g = passed-over (leb flowCount f) AboveLimit _ v (late AboveLimit (omega arith)) (c .1) in
-      let o = passed-over (not (has (e .sessions .opened) s)) NotOpen _ v (late NotOpen (omega arith)) (g .1) in
-      let n = passed-over (leb (flowsOf e s) f) NoSuchFlow _ v (late NoSuchFlow (omega arith)) (o .1) in
-      let r = passed-over (not (has (reachOf e s f) d)) OutOfReach _ v (late OutOfReach (omega arith)) (n .1) in
-      let p = passed-over (not (meeting roleCount (heldOf e u) (getD (e .directory .tables .readers) d 0))) NoPermission _ v (late NoPermission (omega arith)) (r .1) in (
+      let o = passed-over (not (has (e .sessions .opened) (sessionAt p s))) NotOpen _ v (late NotOpen (omega arith)) (g .1) in
+      let n = passed-over (leb (flowsOf e (sessionAt p s)) f) NoSuchFlow _ v (late NoSuchFlow (omega arith)) (o .1) in
+      let r = passed-over (not (has (reachOf e (sessionAt p s) f) d)) OutOfReach _ v (late OutOfReach (omega arith)) (n .1) in
+      let m = passed-over (not (meeting roleCount (heldOf e u) (getD (e .directory .tables .readers) d 0))) NoPermission _ v (late NoPermission (omega arith)) (r .1) in (
         record {
           user = leb-false userCount u (a .0);
           database = leb-false databaseCount d (b .0);
-          session = leb-false sessionCount s (c .0);
+          session = leb-false sessionCount s (sym (session-limit p s) ∙ c .0);
           flow = leb-false flowCount f (g .0);
-          opened = not-false (has (e .sessions .opened) s) (o .0);
-          counted = leb-false (flowsOf e s) f (n .0);
-          reached = not-false (has (reachOf e s f) d) (r .0);
-          permitted = meets-means roleCount (heldOf e u) (getD (e .directory .tables .readers) d 0) .0 (not-false _ (p .0));
+          opened = not-false (has (e .sessions .opened) (sessionAt p s)) (o .0);
+          counted = leb-false (flowsOf e (sessionAt p s)) f (n .0);
+          reached = not-false (has (reachOf e (sessionAt p s) f) d) (r .0);
+          permitted = meets-means roleCount (heldOf e u) (getD (e .directory .tables .readers) d 0) .0 (not-false _ (m .0));
         },
-        p .1,
+        m .1,
       )
 
-  settled : Checked e u s f d → verdict e (Read u s f d) ≡ lastRows changedTest linkableTest
+  settled : Checked e p u s f d → verdict e (Read p u s f d) ≡ lastRows changedTest linkableTest
   unfolding read lastRows changedTest linkableTest there
   settled k =
       is-read
       ∙ rw (
         lt-leb userCount u (k .user),
         lt-leb databaseCount d (k .database),
-        lt-leb sessionCount s (k .session),
+        session-limit p s ∙ lt-leb sessionCount s (k .session),
         lt-leb flowCount f (k .flow),
         k .opened,
-        lt-leb (flowsOf e s) f (k .counted),
+        lt-leb (flowsOf e (sessionAt p s)) f (k .counted),
         k .reached,
         meets-means roleCount (heldOf e u) (getD (e .directory .tables .readers) d 0) .1 (k .permitted),
       )
 
   -- the two tests
-  is-changed : (changedTest ≡ true) ↔ (versionOf e s f < userVersion e u)
+  is-changed : (changedTest ≡ true) ↔ (versionOf e (sessionAt p s) f < userVersion e u)
   unfolding changedTest
-  is-changed = (ltb-true (versionOf e s f) (userVersion e u), lt-ltb (versionOf e s f) (userVersion e u))
+  is-changed = (ltb-true (versionOf e (sessionAt p s) f) (userVersion e u), lt-ltb (versionOf e (sessionAt p s) f) (userVersion e u))
 
-  is-unchanged : (changedTest ≡ false) ↔ (userVersion e u ≤ versionOf e s f)
+  is-unchanged : (changedTest ≡ false) ↔ (userVersion e u ≤ versionOf e (sessionAt p s) f)
   unfolding changedTest
-  is-unchanged = (ltb-false (versionOf e s f) (userVersion e u), le-ltb (versionOf e s f) (userVersion e u))
+  is-unchanged = (ltb-false (versionOf e (sessionAt p s) f) (userVersion e u), le-ltb (versionOf e (sessionAt p s) f) (userVersion e u))
 
-  is-linked : (linkableTest ≡ true) ↔ Links roleCount flowCount (heldOf e u) (denyOf e s f) (rolesOf e s f)
+  is-linked : (linkableTest ≡ true) ↔ Links roleCount flowCount (heldOf e u) (denyOf e (sessionAt p s) f) (rolesOf e (sessionAt p s) f)
   unfolding linkableTest links
-  is-linked = links-mean roleCount flowCount (heldOf e u) (denyOf e s f) (rolesOf e s f)
+  is-linked = links-mean roleCount flowCount (heldOf e u) (denyOf e (sessionAt p s) f) (rolesOf e (sessionAt p s) f)
 
-  pub read-means : ReadMeans e u s f d
+  pub read-means : ReadMeans e p u s f d
   read-means =
       let w = last-rows changedTest linkableTest in
       record {
@@ -497,5 +509,5 @@ fresh-means = record {
   zeros = λ u. getD-same {A = ℕ} userCount u 0;
   system = refl;
   tables = fresh-empty;
-  sessions = λ s. (has-empty s, getD-same {A = ℕ} sessionCount s 0);
+  sessions = λ s. (has-empty s, getD-same {A = ℕ} allSessions s 0);
 }

@@ -10,7 +10,7 @@ use lib.ListN.{length, getD, set, length-set, length-replicate}
 use lib.Seq.{getD-set-same, getD-set-other}
 use borrow.Author.Tests.{eqb-true, eqb-false}
 use Rattle.sets.specs.Sets.{has, sizeOf}
-use Rattle.sets.proofs.Laws.{or-neither, has-inserted, count-cong}
+use Rattle.sets.proofs.Laws.{or-neither, has-inserted, has-empty, count-cong}
 use Rattle.rows.specs.Rows.{there}
 use Rattle.tables.specs.declared.Tables.{Tables}
 use Rattle.tables.specs.Tables.{userCount, roleCount, databaseCount, holds, heldBy}
@@ -21,20 +21,21 @@ use Rattle.model.specs.declared.calls.Refusal.{Refusal}
 use Rattle.model.specs.declared.calls.Refusal.the-variants.{Malformed, AboveLimit, AlreadyThere, NotThere, FlowAdded, NotOpen, SessionFull, NotConflicting, VersionsSpent, NoSuchFlow, OutOfReach, NoPermission, Changed, Linkable}
 use Rattle.model.specs.declared.calls.Change.{Change}
 use Rattle.model.specs.declared.calls.Change.the-variants.{Assign, Withdraw, Permit, Revoke, Forward}
+use Rattle.model.specs.declared.calls.Product.{Product}
 use Rattle.model.specs.declared.calls.Ask.{Ask}
 use Rattle.model.specs.declared.calls.Ask.the-variants.{Open, Conflicting, Add, Show}
 use Rattle.model.specs.declared.calls.Call.{Call}
 use Rattle.model.specs.declared.calls.Call.the-variants.{Table, Session, Read, Unreadable}
 use Rattle.model.specs.declared.calls.Verdict.{Verdict}
 use Rattle.model.specs.declared.calls.Verdict.the-variants.{Granted, Refused}
-use Rattle.model.specs.Limits.{sessionCount, flowCount}
-use Rattle.model.specs.State.{placeCount, roleSetCount}
-use Rattle.model.specs.State.{fresh, engineOf, newVersion}
+use Rattle.model.specs.Limits.{flowCount}
+use Rattle.model.specs.State.{allSessions, placeCount, roleSetCount}
+use Rattle.model.specs.State.{fresh, sessionAt, engineOf, newVersion}
 use Rattle.model.specs.Calls.{numberOf, returned, verdictOf, withTables, toHolders, flowsIn, withFlow, step, answer, verdict, after}
 use Rattle.model.specs.Ledger.{start}
 use Rattle.model.specs.Refusals.{accepts, newFlow, asked, taken, ledgerStep}
 use Rattle.model.specs.Demands.{Told, Demand1, listOf, flowSeen, seen, isRead}
-use Rattle.model.proofs.Laws.{getD-same, listOf-zero, length-filled, length-given}
+use Rattle.model.proofs.Laws.{getD-same, listOf-zero, length-filled, length-given, session-within}
 use Rattle.model.proofs.Invariants.{Sized}
 use Rattle.model.proofs.Chains.{refused-answer}
 use Rattle.model.proofs.Granted.{changedTables, givenBy, changedDirectory, sessionOpened, changedSessions, askAnswer, changed, accepted}
@@ -47,11 +48,11 @@ use Rattle.model.proofs.SeenChanges.{same-ledger, nothing, same-lengths
 told : (e : Engine) (c : Call) → verdict e c ≡ Granted → Told (seen e) (seen (changed e c)) c (accepted e c)
 unfolding verdict answer step verdictOf accepted changed changedSessions askAnswer seen sizeOf newFlow
 told e (Table c) h = refl
-told e (Session s Open) h = refl
-told e (Session s (Conflicting root)) h = (_, refl, λ r l. conflicts-seen e s root (newFlow (seen e) s root 0) (λ d k. reach-seen e root d k) r l)
-told e (Session s (Add root chosen)) h = rw (length-flows e s, count-cong databaseCount _ _ (reach-seen e root))
-told e (Session s (Show f)) h = refl
-told e (Read u s f d) h = refl
+told e (Session p s Open) h = refl
+told e (Session p s (Conflicting root)) h = (_, refl, λ r l. conflicts-seen e p s root (newFlow (seen e) p s root 0) (λ d k. reach-seen e root d k) r l)
+told e (Session p s (Add root chosen)) h = rw (length-flows e p s, count-cong databaseCount _ _ (reach-seen e root))
+told e (Session p s (Show f)) h = refl
+told e (Read p u s f d) h = refl
 told e Unreadable h = absurd (let z : _≡_ {A = ℕ} 0 1 = cc in omega arith)
 
 pub demand1 : (e : Engine) (c : Call) → Demand1 e c
@@ -71,14 +72,14 @@ sized-fresh = record {
   readers = length-replicate {A = ℕ} databaseCount 0;
   forwards = length-replicate {A = ℕ} databaseCount 0;
   users = length-replicate {A = ℕ} userCount 0;
-  counts = length-replicate {A = ℕ} sessionCount 0;
+  counts = length-replicate {A = ℕ} allSessions 0;
   roots = length-replicate {A = ℕ} placeCount 0;
   reaches = length-replicate {A = ℕ} placeCount 0;
   versions = length-replicate {A = ℕ} placeCount 0;
   denies = length-replicate {A = ℕ} placeCount 0;
   rolesets = length-replicate {A = ℕ} roleSetCount 0;
-  few = λ s. rw (getD-same {A = ℕ} sessionCount s 0) (omega arith);
-  shut = λ s l o. getD-same {A = ℕ} sessionCount s 0;
+  few = λ s. rw (getD-same {A = ℕ} allSessions s 0) (omega arith);
+  shut = λ s l o. getD-same {A = ℕ} allSessions s 0;
 }
 
 -- new versions leave the tables, and as many versions as there were
@@ -131,9 +132,9 @@ few-put counts s n few l m t = go (eqb t s) refl
     go true h = rw (eqb-true t s h, getD-set-same counts s (n + 1) 0 l) (omega arith)
     go false h = rw (getD-set-other counts s t (n + 1) 0 (eqb-false t s h)) (few t)
 
-sized-ask : (e : Engine) (s : ℕ) (a : Ask) → Sized e → verdict e (Session s a) ≡ Granted → Sized (engineOf (e .directory) (changedSessions (e .directory) (e .sessions) s a))
+sized-ask : (e : Engine) (p : Product) (s : ℕ) (a : Ask) → Sized e → verdict e (Session p s a) ≡ Granted → Sized (engineOf (e .directory) (changedSessions (e .directory) (e .sessions) (sessionAt p s) a))
 unfolding changedSessions sessionOpened withFlow
-sized-ask e s Open z h = record {
+sized-ask e p s Open z h = record {
   roles = z .roles;
   readers = z .readers;
   forwards = z .forwards;
@@ -145,33 +146,33 @@ sized-ask e s Open z h = record {
   denies = z .denies;
   rolesets = z .rolesets;
   few = z .few;
-  shut = λ t l o. z .shut t l (or-neither (has (e .sessions .opened) t) (eqb t s) (sym (has-inserted 64 (e .sessions .opened) s t (omega arith)) ∙ o) .0);
+  shut = λ t l o. z .shut t l (or-neither (has (e .sessions .opened) t) (eqb t (sessionAt p s)) (sym (has-inserted 64 (e .sessions .opened) (sessionAt p s) t (omega arith)) ∙ o) .0);
 }
-sized-ask e s (Conflicting root) z h = z
-sized-ask e s (Add root chosen) z h =
-    let w = within-add e s root chosen h in
-    let l : s < length (e .sessions .counts) = omega (arith, z .counts) in
+sized-ask e p s (Conflicting root) z h = z
+sized-ask e p s (Add root chosen) z h =
+    let w = within-add e p s root chosen h in
+    let l : sessionAt p s < length (e .sessions .counts) = omega (arith, z .counts, session-within p s (w .0)) in
     record {
       roles = z .roles;
       readers = z .readers;
       forwards = z .forwards;
       users = z .users;
-      counts = length-set (e .sessions .counts) s _ ∙ z .counts;
+      counts = length-set (e .sessions .counts) (sessionAt p s) _ ∙ z .counts;
       roots = length-set (e .sessions .roots) _ _ ∙ z .roots;
       reaches = length-set (e .sessions .reaches) _ _ ∙ z .reaches;
       versions = length-set (e .sessions .versions) _ _ ∙ z .versions;
       denies = length-set (e .sessions .denies) _ _ ∙ z .denies;
       rolesets = length-filled _ _ flowCount (e .sessions .rolesets) ∙ z .rolesets;
-      few = few-put (e .sessions .counts) s (flowsIn (e .sessions) s) (z .few) l (w .4);
-      shut = λ t k o. getD-set-other (e .sessions .counts) s t _ 0 (λ q. true≢false (sym (w .3) ∙ ap (has (e .sessions .opened)) (sym q) ∙ o)) ∙ z .shut t k o;
+      few = few-put (e .sessions .counts) (sessionAt p s) (flowsIn (e .sessions) (sessionAt p s)) (z .few) l (w .4);
+      shut = λ t k o. getD-set-other (e .sessions .counts) (sessionAt p s) t _ 0 (λ q. true≢false (sym (w .3) ∙ ap (has (e .sessions .opened)) (sym q) ∙ o)) ∙ z .shut t k o;
     }
-sized-ask e s (Show f) z h = z
+sized-ask e p s (Show f) z h = z
 
 pub sized-changed : (e : Engine) (c : Call) → Sized e → verdict e c ≡ Granted → Sized (changed e c)
 unfolding changed
 sized-changed e (Table c) z h = sized-change e c z
-sized-changed e (Session s a) z h = sized-ask e s a z h
-sized-changed e (Read u s f d) z h = z
+sized-changed e (Session p s a) z h = sized-ask e p s a z h
+sized-changed e (Read p u s f d) z h = z
 sized-changed e Unreadable z h = z
 
 -- whatever the call and the verdict
@@ -184,25 +185,25 @@ pub seen-fresh : seen fresh ≡ start
 unfolding seen fresh emptyTables start there
 seen-fresh =
     same-ledger (seen fresh) start (λ u r. nothing (ltb r roleCount) _ r (getD-same {A = ℕ} userCount u 0)) (λ r d. nothing (ltb r roleCount) _ r (getD-same {A = ℕ} databaseCount d 0))
-    (λ d x. nothing (ltb x databaseCount) _ x (getD-same {A = ℕ} databaseCount d 0)) refl (λ u. getD-same {A = ℕ} userCount u 0) (λ s. nothing (ltb s 64) 0 s refl)
-    (λ s. ap (λ (n : ℕ). listOf n (flowSeen fresh s)) (getD-same {A = ℕ} sessionCount s 0) ∙ listOf-zero (flowSeen fresh s))
+    (λ d x. nothing (ltb x databaseCount) _ x (getD-same {A = ℕ} databaseCount d 0)) refl (λ u. getD-same {A = ℕ} userCount u 0) (λ p s. has-empty (sessionAt p s))
+    (λ p s. ap (λ (n : ℕ). listOf n (flowSeen fresh (sessionAt p s))) (getD-same {A = ℕ} allSessions (sessionAt p s) 0) ∙ listOf-zero (flowSeen fresh (sessionAt p s)))
 
 -- ---- the ledger takes each call as the engine does
 
 -- what is asked of a session, where it is granted
-seen-asked : (e : Engine) (s : ℕ) (a : Ask) → Sized e → verdict e (Session s a) ≡ Granted → seen (engineOf (e .directory) (changedSessions (e .directory) (e .sessions) s a)) ≡ asked (seen e) s a
+seen-asked : (e : Engine) (p : Product) (s : ℕ) (a : Ask) → Sized e → verdict e (Session p s a) ≡ Granted → seen (engineOf (e .directory) (changedSessions (e .directory) (e .sessions) (sessionAt p s) a)) ≡ asked (seen e) p s a
 unfolding changedSessions asked
-seen-asked e s Open z h = let w = within-open e s h in same-open e z s (w .0) (w .1)
-seen-asked e s (Conflicting root) z h = refl
-seen-asked e s (Add root chosen) z h = let w = within-add e s root chosen h in same-add e z s root chosen (w .0) (w .1) (w .2) (w .3) (w .4)
-seen-asked e s (Show f) z h = refl
+seen-asked e p s Open z h = let w = within-open e p s h in same-open e z p s (w .0) (w .1)
+seen-asked e p s (Conflicting root) z h = refl
+seen-asked e p s (Add root chosen) z h = let w = within-add e p s root chosen h in same-add e z p s root chosen (w .0) (w .1) (w .2) (w .3) (w .4)
+seen-asked e p s (Show f) z h = refl
 
 -- any accepted call
 seen-changed : (e : Engine) (c : Call) → Sized e → verdict e c ≡ Granted → seen (changed e c) ≡ taken (seen e) c
 unfolding changed taken
 seen-changed e (Table c) z h = same-change e z c (within-change e c h)
-seen-changed e (Session s a) z h = seen-asked e s a z h
-seen-changed e (Read u s f d) z h = refl
+seen-changed e (Session p s a) z h = seen-asked e p s a z h
+seen-changed e (Read p u s f d) z h = refl
 seen-changed e Unreadable z h = refl
 
 -- a refusal's number is never 0
@@ -236,8 +237,8 @@ seen-other e c n z = go (verdict e c) refl
 pub seen-after : (e : Engine) (c : Call) → Sized e → seen (after e c) ≡ ledgerStep (seen e) c
 unfolding isRead after step ledgerStep taken
 seen-after e (Table c) z = seen-other e (Table c) refl z
-seen-after e (Session s a) z = seen-other e (Session s a) refl z
-seen-after e (Read u s f d) z = go (accepts (seen e) (Read u s f d))
+seen-after e (Session p s a) z = seen-other e (Session p s a) refl z
+seen-after e (Read p u s f d) z = go (accepts (seen e) (Read p u s f d))
   where
     go : (b : Bool) → seen e ≡ cond b (seen e) (seen e)
     go true = refl

@@ -12,7 +12,7 @@ use lib.Dec.{ltb, eqb}
 use lib.ListN.{length, getD, length-set, List·getD-eq-default}
 use lib.Seq.{getD-set-same, getD-set-other}
 use borrow.Author.Tests.{ltb-true, ltb-false, lt-ltb, le-ltb, eqb-true, eqb-false, eq-eqb, ne-eqb}
-use Rattle.sets.specs.Sets.{has, some, inserted, joined}
+use Rattle.sets.specs.Sets.{has, some, joined}
 use Rattle.sets.proofs.Laws.{true-or-false, or-none, or-left, some-at, some-nowhere, has-inserted, has-joined, has-empty, has-high}
 use Rattle.rows.specs.Rows.{there, struck}
 use Rattle.rows.specs.Rows.{entered as rowEntered}
@@ -25,31 +25,32 @@ use Rattle.model.specs.declared.Sessions.{Sessions}
 use Rattle.model.specs.declared.Engine.{Engine}
 use Rattle.model.specs.declared.calls.Change.{Change}
 use Rattle.model.specs.declared.calls.Change.the-variants.{Assign, Withdraw, Permit, Revoke, Forward}
+use Rattle.model.specs.declared.calls.Product.{Product}
 use Rattle.model.specs.declared.calls.Ask.the-variants.{Open, Add}
 use Rattle.model.specs.Limits.{sessionCount, flowCount}
-use Rattle.model.specs.State.{engineOf, place, denyBefore, given, newVersion}
+use Rattle.model.specs.State.{sessionAt, engineOf, place, denyBefore, given, newVersion}
 use Rattle.model.specs.Calls.{toHolders, flowsIn, withFlow}
 use Rattle.model.specs.Calls.{withTables as withNewTables}
 use Rattle.model.specs.Ledger.{Ledger, Flow, leadsWithin, reachOf}
 use Rattle.model.specs.Refusals.{due, newFlow, lastDeny, withTables, renewed, plus, minus, entered, withFlows, asked}
 use Rattle.model.specs.Demands.{listOf, flowSeen, seen}
-use Rattle.model.proofs.Laws.{listOf-suc, listOf-zero, listOf-cong, getD-given, getD-given-past, places, place-lt}
+use Rattle.model.proofs.Laws.{listOf-suc, listOf-zero, listOf-cong, getD-given, getD-given-past, session-within, session-most, session-one, places, place-lt}
 use Rattle.model.proofs.Invariants.{Sized}
 use Rattle.model.proofs.Granted.{changedTables, givenBy, changedDirectory, sessionOpened, changedSessions}
-use Rattle.model.proofs.SeenRows.{and-swap, holds-seen, opened-seen, reach-seen, Within}
+use Rattle.model.proofs.SeenRows.{and-swap, holds-seen, reach-seen, Within}
 
 -- ---- two ledgers are equal where they say the same
 
 pub same-ledger : (a b : Ledger) → ((u r : ℕ) → a .holds u r ≡ b .holds u r) → ((r d : ℕ) → a .mayRead r d ≡ b .mayRead r d) → ((d x : ℕ) → a .forwards d x ≡ b .forwards d x)
-    → a .system ≡ b .system → ((u : ℕ) → a .version u ≡ b .version u) → ((s : ℕ) → a .opened s ≡ b .opened s) → ((s : ℕ) → a .flows s ≡ b .flows s) → a ≡ b
+    → a .system ≡ b .system → ((u : ℕ) → a .version u ≡ b .version u) → ((p : Product) (s : ℕ) → a .opened p s ≡ b .opened p s) → ((p : Product) (s : ℕ) → a .flows p s ≡ b .flows p s) → a ≡ b
 same-ledger a b holds reading forwards system version opened flows = λ i. record {
   holds = λ u r. holds u r i;
   mayRead = λ r d. reading r d i;
   forwards = λ d x. forwards d x i;
   system = system i;
   version = λ u. version u i;
-  opened = λ s. opened s i;
-  flows = λ s. flows s i;
+  opened = λ p s. opened p s i;
+  flows = λ p s. flows p s i;
 }
 
 -- nothing is in an empty set, whatever bounds it
@@ -62,7 +63,7 @@ nothing false x i e = refl
 -- nobody is due one
 pub renewed-none : (l : Ledger) → renewed l (λ w. false) ≡ l
 unfolding renewed
-renewed-none l = same-ledger (renewed l (λ w. false)) l (λ u r. refl) (λ r d. refl) (λ d x. refl) (ap (λ (b : Bool). cond b (l .system + 1) (l .system)) (some-nowhere userCount (λ w. false) (λ w m. refl))) (λ u. refl) (λ s. refl) (λ s. refl)
+renewed-none l = same-ledger (renewed l (λ w. false)) l (λ u r. refl) (λ r d. refl) (λ d x. refl) (ap (λ (b : Bool). cond b (l .system + 1) (l .system)) (some-nowhere userCount (λ w. false) (λ w m. refl))) (λ u. refl) (λ p s. refl) (λ p s. refl)
 
 -- a test that holds for nobody below n, and for nobody above
 due-none : (n : ℕ) (who : ℕ → Bool) → ((w : ℕ) → n ≤ w → who w ≡ false) → some n who ≡ false → (w : ℕ) → who w ≡ false
@@ -79,7 +80,7 @@ module _ (D : Directory) (S : Sessions) (size : length (D .versions) ≡ userCou
   unfolding seen flowSeen newVersion renewed
   renewed-some who past h =
       same-ledger (seen (engineOf (newVersion D who) S)) (renewed (seen (engineOf D S)) who) (λ u r. refl) (λ r d. refl) (λ d x. refl)
-      (ap (λ (b : Bool). cond b (D .version + 1) (D .version)) (sym h)) (λ w. go w (decLt w userCount)) (λ s. refl) (λ s. refl)
+      (ap (λ (b : Bool). cond b (D .version + 1) (D .version)) (sym h)) (λ w. go w (decLt w userCount)) (λ p s. refl) (λ p s. refl)
     where
       go : (w : ℕ) → Dec (w < userCount) → getD (given who (D .version + 1) userCount (D .versions)) w 0 ≡ cond (who w) (D .version + 1) (getD (D .versions) w 0)
       go w (yes l) = getD-given who (D .version + 1) userCount (D .versions) w (omega arith) l
@@ -134,7 +135,7 @@ module _ (n : ℕ) (rows : List ℕ) (a b c d : ℕ) (l : a < length rows) (k : 
 tables-seen : (e : Engine) (T : Tables) (h m f : ℕ → ℕ → Bool) → ((u r : ℕ) → (ltb r roleCount && holds T u r) ≡ h u r) → ((r d : ℕ) → (ltb r roleCount && mayRead T r d) ≡ m r d) → ((d x : ℕ) → (ltb x databaseCount && forwardsTo T d x) ≡ f d x)
     → seen (engineOf (withNewTables (e .directory) T) (e .sessions)) ≡ withTables (seen e) h m f
 unfolding seen flowSeen
-tables-seen e T h m f p q r = same-ledger (seen (engineOf (withNewTables (e .directory) T) (e .sessions))) (withTables (seen e) h m f) p q r refl (λ w. refl) (λ s. refl) (λ s. refl)
+tables-seen e T h m f p q r = same-ledger (seen (engineOf (withNewTables (e .directory) T) (e .sessions))) (withTables (seen e) h m f) p q r refl (λ w. refl) (λ q s. refl) (λ q s. refl)
 
 -- the pair is entered or struck out
 same-tables : (e : Engine) → Sized e → (c : Change) → Within c → seen (engineOf (withNewTables (e .directory) (changedTables (e .directory .tables) c)) (e .sessions)) ≡ entered (seen e) c
@@ -174,24 +175,22 @@ same-change e z c w =
 
 -- ---- an accepted opening
 
-module _ (e : Engine) (z : Sized e) (s : ℕ) (l : s < sessionCount) where
+module _ (e : Engine) (z : Sized e) (p : Product) (s : ℕ) (l : s < sessionCount) where
   -- the flows of a session that is not open: there are none
-  pub no-flows : has (e .sessions .opened) s ≡ false → seen e .flows s ≡ []
+  pub no-flows : has (e .sessions .opened) (sessionAt p s) ≡ false → seen e .flows p s ≡ []
   unfolding seen
-  no-flows o = ap (λ (n : ℕ). listOf n (flowSeen e s)) (z .shut s l o) ∙ listOf-zero (flowSeen e s)
+  no-flows o = ap (λ (n : ℕ). listOf n (flowSeen e (sessionAt p s))) (z .shut (sessionAt p s) (session-within p s l) o) ∙ listOf-zero (flowSeen e (sessionAt p s))
 
-  pub same-open : has (e .sessions .opened) s ≡ false → seen (engineOf (e .directory) (sessionOpened (e .sessions) s)) ≡ asked (seen e) s Open
+  pub same-open : has (e .sessions .opened) (sessionAt p s) ≡ false → seen (engineOf (e .directory) (sessionOpened (e .sessions) (sessionAt p s))) ≡ asked (seen e) p s Open
   unfolding seen flowSeen sessionOpened asked withFlows
   same-open o =
-      same-ledger (seen (engineOf (e .directory) (sessionOpened (e .sessions) s))) (asked (seen e) s Open) (λ w q. refl) (λ q d. refl) (λ d x. refl) refl (λ w. refl)
-      (λ t. bound-cases 64 t (has (inserted 64 (e .sessions .opened) s) t) ((ltb t 64 && has (e .sessions .opened) t) || eqb t s)
-      (λ h. has-inserted 64 (e .sessions .opened) s t h ∙ rw (lt-ltb t 64 h))
-      (λ h. rw (le-ltb t 64 h) (ne-eqb t s (omega arith))))
-      (λ t. go t (eqb t s) refl)
+      same-ledger (seen (engineOf (e .directory) (sessionOpened (e .sessions) (sessionAt p s)))) (asked (seen e) p s Open) (λ w q. refl) (λ q d. refl) (λ d x. refl) refl (λ w. refl)
+      (λ q t. has-inserted 64 (e .sessions .opened) (sessionAt p s) (sessionAt q t) (omega (arith, session-most q t)) ∙ ap (λ (b : Bool). has (e .sessions .opened) (sessionAt q t) || b) (session-one q p t s l))
+      (λ q t. rw (← session-one q p t s l) (go q t (eqb (sessionAt q t) (sessionAt p s)) refl))
     where
-      go : (t : ℕ) (b : Bool) → eqb t s ≡ b → seen e .flows t ≡ cond b [] (seen e .flows t)
-      go t true h = rw (eqb-true t s h) (no-flows o)
-      go t false h = refl
+      go : (q : Product) (t : ℕ) (b : Bool) → eqb (sessionAt q t) (sessionAt p s) ≡ b → seen e .flows q t ≡ cond b [] (seen e .flows q t)
+      go q t true h = rw (eqb-true (sessionAt q t) (sessionAt p s) h) (no-flows o)
+      go q t false h = refl
 
 -- ---- a flow more
 
@@ -222,21 +221,22 @@ unfolding denyBefore flowSeen lastDeny
 last-seen e s r zero = nothing (ltb r roleCount) 0 r refl ∙ ap (λ (xs : List Flow). lastDeny xs r) (sym (listOf-zero (flowSeen e s)))
 last-seen e s r (suc n) = sym (ap (λ (xs : List Flow). lastDeny xs r) (listOf-suc n (flowSeen e s)) ∙ lastDeny-snoc (listOf n (flowSeen e s)) (flowSeen e s n) r)
 
-module _ (e : Engine) (z : Sized e) (s root chosen : ℕ) (l : s < sessionCount) (k : root < databaseCount) (h : chosen < 2 ^ roleCount) (o : has (e .sessions .opened) s ≡ true) (m : flowsIn (e .sessions) s < flowCount) where
+module _ (e : Engine) (z : Sized e) (p : Product) (s root chosen : ℕ) (l : s < sessionCount) (k : root < databaseCount) (h : chosen < 2 ^ roleCount) (o : has (e .sessions .opened) (sessionAt p s) ≡ true)
+    (m : flowsIn (e .sessions) (sessionAt p s) < flowCount) where
   n : ℕ
-  n = flowsIn (e .sessions) s
+  n = flowsIn (e .sessions) (sessionAt p s)
 
   new : ℕ
   new = reach databaseCount (e .directory .tables .forwards) root
 
   deny : ℕ
-  deny = joined roleCount (denyBefore (e .sessions .denies) s n) chosen
+  deny = joined roleCount (denyBefore (e .sessions .denies) (sessionAt p s) n) chosen
 
   put : Engine
-  put = engineOf (e .directory) (withFlow (e .directory) (e .sessions) s root new deny)
+  put = engineOf (e .directory) (withFlow (e .directory) (e .sessions) (sessionAt p s) root new deny)
 
   -- the other flows stay
-  flow-stays : (t f : ℕ) → (place t f ≡ place s n → ⊥) → flowSeen put t f ≡ flowSeen e t f
+  flow-stays : (t f : ℕ) → (place t f ≡ place (sessionAt p s) n → ⊥) → flowSeen put t f ≡ flowSeen e t f
   unfolding n put flowSeen withFlow
   flow-stays t f d = simp getD-set-other
 
@@ -245,45 +245,48 @@ module _ (e : Engine) (z : Sized e) (s root chosen : ℕ) (l : s < sessionCount)
   unfolding new
   reach-put d = bound-cases databaseCount d (has new d) (reachOf (seen e) root d) (reach-seen e root d) (reach-past e root d k)
 
-  deny-put : (r : ℕ) → (ltb r roleCount && has deny r) ≡ (lastDeny (seen e .flows s) r || has chosen r)
+  deny-put : (r : ℕ) → (ltb r roleCount && has deny r) ≡ (lastDeny (seen e .flows p s) r || has chosen r)
   unfolding n deny seen
   deny-put r =
-      rw (← last-seen e s r n)
-      (bound-cases roleCount r (has deny r) ((ltb r roleCount && has (denyBefore (e .sessions .denies) s n) r) || has chosen r)
-      (λ q. has-joined roleCount (denyBefore (e .sessions .denies) s n) chosen r q ∙ rw (lt-ltb r roleCount q))
+      rw (← last-seen e (sessionAt p s) r n)
+      (bound-cases roleCount r (has deny r) ((ltb r roleCount && has (denyBefore (e .sessions .denies) (sessionAt p s) n) r) || has chosen r)
+      (λ q. has-joined roleCount (denyBefore (e .sessions .denies) (sessionAt p s) n) chosen r q ∙ rw (lt-ltb r roleCount q))
       (λ q. rw (le-ltb r roleCount q) (has-high roleCount chosen r h q)))
 
-  flow-put : flowSeen put s n ≡ newFlow (seen e) s root chosen
+  flow-put : flowSeen put (sessionAt p s) n ≡ newFlow (seen e) p s root chosen
   unfolding n put flowSeen flowFrom withFlow newFlow seen
   flow-put =
-      let p = place-lt s n l m in
-      (λ i. flowFrom (getD-set-same (e .sessions .roots) (place s n) root 0 (omega (arith, p, z .roots)) i) (getD-set-same (e .sessions .reaches) (place s n) new 0 (omega (arith, p, z .reaches)) i)
-      (getD-set-same (e .sessions .versions) (place s n) (e .directory .version) 0 (omega (arith, p, z .versions)) i) (getD-set-same (e .sessions .denies) (place s n) deny 0 (omega (arith, p, z .denies)) i))
+      let w = place-lt (sessionAt p s) n (session-within p s l) m in
+      (λ i. flowFrom (getD-set-same (e .sessions .roots) (place (sessionAt p s) n) root 0 (omega (arith, w, z .roots)) i) (getD-set-same (e .sessions .reaches) (place (sessionAt p s) n) new 0 (omega (arith, w, z .reaches)) i)
+      (getD-set-same (e .sessions .versions) (place (sessionAt p s) n) (e .directory .version) 0 (omega (arith, w, z .versions)) i) (getD-set-same (e .sessions .denies) (place (sessionAt p s) n) deny 0 (omega (arith, w, z .denies)) i))
       ∙ (λ i. record { root = root; reach = λ d. reach-put d i; version = e .directory .version; deny = λ r. deny-put r i })
 
   -- the session's flows with the new one at the end, and the flows of the others
-  flows-here : seen put .flows s ≡ seen e .flows s ++ (newFlow (seen e) s root chosen ∷ [])
+  flows-here : seen put .flows p s ≡ seen e .flows p s ++ (newFlow (seen e) p s root chosen ∷ [])
   unfolding n put seen withFlow
   flows-here =
-      let c : s < length (e .sessions .counts) = omega (arith, z .counts) in
-      ap (λ (i : ℕ). listOf i (flowSeen put s)) (getD-set-same (e .sessions .counts) s (n + 1) 0 c ∙ add-one n)
-      ∙ listOf-suc n (flowSeen put s)
-      ∙ ap₂ (λ (xs : List Flow) (x : Flow). xs ++ (x ∷ [])) (listOf-cong n (flowSeen put s) (flowSeen e s) (λ f q. flow-stays s f (places s f s n (omega arith) m (λ a b. omega arith)))) flow-put
+      let c : sessionAt p s < length (e .sessions .counts) = omega (arith, z .counts, session-within p s l) in
+      ap (λ (i : ℕ). listOf i (flowSeen put (sessionAt p s))) (getD-set-same (e .sessions .counts) (sessionAt p s) (n + 1) 0 c ∙ add-one n)
+      ∙ listOf-suc n (flowSeen put (sessionAt p s))
+      ∙ ap₂ (λ (xs : List Flow) (x : Flow). xs ++ (x ∷ [])) (listOf-cong n (flowSeen put (sessionAt p s)) (flowSeen e (sessionAt p s)) (λ f q. flow-stays (sessionAt p s) f (places (sessionAt p s) f (sessionAt p s) n (omega arith) m (λ a b. omega arith)))) flow-put
 
-  flows-there : (t : ℕ) → (t ≡ s → ⊥) → seen put .flows t ≡ seen e .flows t
+  flows-there : (q : Product) (t : ℕ) → (sessionAt q t ≡ sessionAt p s → ⊥) → seen put .flows q t ≡ seen e .flows q t
   unfolding n put seen withFlow
-  flows-there t d =
-      ap (λ (i : ℕ). listOf i (flowSeen put t)) (getD-set-other (e .sessions .counts) s t (n + 1) 0 d)
-      ∙ listOf-cong (flowsIn (e .sessions) t) (flowSeen put t) (flowSeen e t) (λ f q. flow-stays t f (places t f s n (omega (arith, z .few t)) m (λ a b. d a)))
+  flows-there q t d =
+      ap (λ (i : ℕ). listOf i (flowSeen put (sessionAt q t))) (getD-set-other (e .sessions .counts) (sessionAt p s) (sessionAt q t) (n + 1) 0 d)
+      ∙ listOf-cong (flowsIn (e .sessions) (sessionAt q t)) (flowSeen put (sessionAt q t)) (flowSeen e (sessionAt q t))
+      (λ f i. flow-stays (sessionAt q t) f (places (sessionAt q t) f (sessionAt p s) n (omega (arith, z .few (sessionAt q t))) m (λ a b. d a)))
 
-  pub same-add : seen (engineOf (e .directory) (changedSessions (e .directory) (e .sessions) s (Add root chosen))) ≡ asked (seen e) s (Add root chosen)
+  pub same-add : seen (engineOf (e .directory) (changedSessions (e .directory) (e .sessions) (sessionAt p s) (Add root chosen))) ≡ asked (seen e) p s (Add root chosen)
   unfolding n new deny put changedSessions withFlow seen asked withFlows
-  same-add = same-ledger (seen put) (asked (seen e) s (Add root chosen)) (λ w q. refl) (λ q d. refl) (λ d x. refl) refl (λ w. refl) (λ t. still t (eqb t s) refl) (λ t. flows t (eqb t s) refl)
+  same-add =
+      same-ledger (seen put) (asked (seen e) p s (Add root chosen)) (λ w q. refl) (λ q d. refl) (λ d x. refl) refl (λ w. refl)
+      (λ q t. rw (← session-one q p t s l) (still q t (eqb (sessionAt q t) (sessionAt p s)) refl)) (λ q t. rw (← session-one q p t s l) (flows q t (eqb (sessionAt q t) (sessionAt p s)) refl))
     where
-      still : (t : ℕ) (b : Bool) → eqb t s ≡ b → seen e .opened t ≡ (seen e .opened t || b)
-      still t true q = let p : seen e .opened t ≡ true = ap (seen e .opened) (eqb-true t s q) ∙ sym (opened-seen e s l) ∙ o in p ∙ sym (or-left true p)
-      still t false q = or-none (seen e .opened t)
+      still : (q : Product) (t : ℕ) (b : Bool) → eqb (sessionAt q t) (sessionAt p s) ≡ b → seen e .opened q t ≡ (seen e .opened q t || b)
+      still q t true i = let w : seen e .opened q t ≡ true = ap (has (e .sessions .opened)) (eqb-true (sessionAt q t) (sessionAt p s) i) ∙ o in w ∙ sym (or-left true w)
+      still q t false i = or-none (seen e .opened q t)
 
-      flows : (t : ℕ) (b : Bool) → eqb t s ≡ b → seen put .flows t ≡ cond b (seen e .flows s ++ (newFlow (seen e) s root chosen ∷ [])) (seen e .flows t)
-      flows t true q = rw (eqb-true t s q) flows-here
-      flows t false q = flows-there t (eqb-false t s q)
+      flows : (q : Product) (t : ℕ) (b : Bool) → eqb (sessionAt q t) (sessionAt p s) ≡ b → seen put .flows q t ≡ cond b (seen e .flows p s ++ (newFlow (seen e) p s root chosen ∷ [])) (seen e .flows q t)
+      flows q t true i = rw (eqb-true (sessionAt q t) (sessionAt p s) i) flows-here
+      flows q t false i = flows-there q t (eqb-false (sessionAt q t) (sessionAt p s) i)

@@ -1,6 +1,6 @@
 -- The checks that an engine goes through are the rows of the refusal table over what a ledger sees of it.
 -- Assumes nothing.
-use Prim.Native.Nat.{ℕ, zero, suc, _-_, _^_, _<_}
+use Prim.Native.Nat.{ℕ, zero, suc, _+_, _-_, _^_, _<_}
 use mathlib.Core.Path.{_≡_, refl, sym, ap, ap₂, _∙_}
 use mathlib.Core.Bool.{Bool, true, false, cond, not, _&&_, _||_, true≢false}
 use mathlib.Core.List.{List, [], _∷_, _++_}
@@ -18,6 +18,8 @@ use Rattle.model.specs.declared.calls.Refusal.{Refusal}
 use Rattle.model.specs.declared.calls.Refusal.the-variants.{Malformed, AboveLimit, AlreadyThere, NotThere, FlowAdded, NotOpen, SessionFull, NotConflicting, VersionsSpent, NoSuchFlow, OutOfReach, NoPermission, Changed, Linkable}
 use Rattle.model.specs.declared.calls.Change.{Change}
 use Rattle.model.specs.declared.calls.Change.the-variants.{Assign, Withdraw, Permit, Revoke, Forward}
+use Rattle.model.specs.declared.calls.Product.{Product}
+use Rattle.model.specs.declared.calls.Product.the-variants.{Server, TermBank}
 use Rattle.model.specs.declared.calls.Ask.{Ask}
 use Rattle.model.specs.declared.calls.Ask.the-variants.{Open, Conflicting, Add, Show}
 use Rattle.model.specs.declared.calls.Call.{Call}
@@ -26,13 +28,13 @@ use Rattle.model.specs.declared.calls.Verdict.{Verdict}
 use Rattle.model.specs.declared.calls.Verdict.the-variants.{Granted, Refused}
 use Rattle.model.specs.declared.calls.Answer.the-variants.{Granted as Answer·Granted}
 use Rattle.model.specs.Limits.{sessionCount, flowCount, lastVersion}
-use Rattle.model.specs.State.{engineOf, place, anyFlow, reachWith, conflicts, outside, denyBefore}
+use Rattle.model.specs.State.{allSessions, firstOf, sessionAt, engineOf, place, anyFlow, reachWith, conflicts, outside, denyBefore}
 use Rattle.model.specs.Calls.{numberOf, returned, verdictOf, Done, done, told, assign, withdraw, permit, revoke, forward, change, flowsIn, openSession, conflictsIn, conflicting, withFlow, add, show, ask, links, read, answerOf, step, answer, verdict, after}
 use Rattle.model.specs.Calls.{spent as noneLeft}
 use Rattle.model.specs.Ledger.{Ledger, Flow, flowOf, leadsWithin, reachOf, reads, readsTwoOf, isConflicting, linked}
 use Rattle.model.specs.Refusals.{due, spent, flowAdded, newFlow, changeRows, askRows, readRows, rows, firstMet, refusal, accepts}
 use Rattle.model.specs.Demands.{flowSeen, seen, storedLinkable, isRead}
-use Rattle.model.proofs.Laws.{length-snoc, length-listOf, getD-listOf, getD-snoc}
+use Rattle.model.proofs.Laws.{length-snoc, length-listOf, getD-listOf, getD-snoc, or-assoc, some-parts, session-there, session-limit}
 use Rattle.model.proofs.Chains.{Checked, changing, asking, reading, all-passed, stopped, check-or, check, check-two, within, not-met}
 use Rattle.model.proofs.Granted.{changedDirectory, changedTables, givenBy, sessionOpened, changedSessions, askAnswer, changed, accepted}
 
@@ -64,9 +66,9 @@ pub forwards-seen : (e : Engine) (d x : ℕ) → x < databaseCount → forwardsT
 unfolding seen
 forwards-seen e d x l = bounded databaseCount x (forwardsTo (e .directory .tables) d x) l
 
-pub opened-seen : (e : Engine) (s : ℕ) → s < sessionCount → has (e .sessions .opened) s ≡ seen e .opened s
+pub opened-seen : (e : Engine) (p : Product) (s : ℕ) → has (e .sessions .opened) (sessionAt p s) ≡ seen e .opened p s
 unfolding seen
-opened-seen e s l = bounded 64 s (has (e .sessions .opened) s) (omega arith)
+opened-seen e p s = refl
 
 -- ---- where forwarding leads, by sets and by steps
 
@@ -110,64 +112,70 @@ meets-seen e u d =
 
 -- ---- the flows of a session
 
-pub length-flows : (e : Engine) (s : ℕ) → length (seen e .flows s) ≡ flowsIn (e .sessions) s
+pub length-flows : (e : Engine) (p : Product) (s : ℕ) → length (seen e .flows p s) ≡ flowsIn (e .sessions) (sessionAt p s)
 unfolding seen
-length-flows e s = length-listOf (flowsIn (e .sessions) s) (flowSeen e s)
+length-flows e p s = length-listOf (flowsIn (e .sessions) (sessionAt p s)) (flowSeen e (sessionAt p s))
 
-pub getD-flows : (e : Engine) (s f : ℕ) (none : Flow) → f < flowsIn (e .sessions) s → getD (seen e .flows s) f none ≡ flowSeen e s f
+pub getD-flows : (e : Engine) (p : Product) (s f : ℕ) (none : Flow) → f < flowsIn (e .sessions) (sessionAt p s) → getD (seen e .flows p s) f none ≡ flowSeen e (sessionAt p s) f
 unfolding seen
-getD-flows e s f none l = getD-listOf (flowsIn (e .sessions) s) (flowSeen e s) f none l
+getD-flows e p s f none l = getD-listOf (flowsIn (e .sessions) (sessionAt p s)) (flowSeen e (sessionAt p s)) f none l
 
-pub flow-seen : (e : Engine) (s f : ℕ) → f < flowsIn (e .sessions) s → flowOf (seen e) s f ≡ flowSeen e s f
+pub flow-seen : (e : Engine) (p : Product) (s f : ℕ) → f < flowsIn (e .sessions) (sessionAt p s) → flowOf (seen e) p s f ≡ flowSeen e (sessionAt p s) f
 unfolding flowOf
-flow-seen e s f l = getD-flows e s f _ l
+flow-seen e p s f l = getD-flows e p s f _ l
 
 pub reads-kept : (e : Engine) (u s f : ℕ)
     → staticallyReads roleCount databaseCount (e .directory .tables .roles) (e .directory .tables .readers) u (getD (e .sessions .reaches) (place s f) 0) ≡ reads (seen e) u (flowSeen e s f)
 unfolding flowSeen
 reads-kept e u s f = let m : ℕ = getD (e .sessions .reaches) (place s f) 0 in reads-seen e u (flowSeen e s f) m (λ d l. bounded databaseCount d (has m d) l)
 
+-- some flow of one product, whose sessions have these numbers
+flow-of : (e : Engine) (p : Product) (at : ℕ → ℕ) → ((s : ℕ) → s < sessionCount → at s ≡ sessionAt p s) → some sessionCount (λ s. ltb 0 (flowsIn (e .sessions) (at s))) ≡ some sessionCount (λ s. ltb 0 (length (seen e .flows p s)))
+flow-of e p at f = some-cong sessionCount _ _ (λ s l. ap (ltb 0) (ap (flowsIn (e .sessions)) (f s l) ∙ sym (length-flows e p s)))
+
 any-seen : (e : Engine) → anyFlow (e .sessions .counts) ≡ flowAdded (seen e)
-unfolding anyFlow flowAdded
-any-seen e = some-cong sessionCount (λ s. ltb 0 (flowsIn (e .sessions) s)) (λ s. ltb 0 (length (seen e .flows s))) (λ s l. ap (ltb 0) (sym (length-flows e s)))
+unfolding anyFlow flowAdded firstOf
+any-seen e =
+    some-parts sessionCount sessionCount (λ s. ltb 0 (flowsIn (e .sessions) s))
+    ∙ ap₂ (λ (a b : Bool). a || b) (flow-of e Server (λ s. s) (λ s l. omega (arith, session-there Server s l))) (flow-of e TermBank (λ s. sessionCount + s) (λ s l. sym (session-there TermBank s l)))
 
 -- ---- the conflicting roles
 
-module _ (e : Engine) (s root : ℕ) (new : Flow) (fresh : (d : ℕ) → d < databaseCount → has (reach databaseCount (e .directory .tables .forwards) root) d ≡ new .reach d) where
+module _ (e : Engine) (p : Product) (s root : ℕ) (new : Flow) (fresh : (d : ℕ) → d < databaseCount → has (reach databaseCount (e .directory .tables .forwards) root) d ≡ new .reach d) where
   -- a flow of the session, with the new one counted in
-  flow-with : (u g : ℕ) → g < suc (flowsIn (e .sessions) s)
-      → staticallyReads roleCount databaseCount (e .directory .tables .roles) (e .directory .tables .readers) u (reachWith (e .sessions .reaches) s (flowsIn (e .sessions) s) (reach databaseCount (e .directory .tables .forwards) root) g)
-      ≡ reads (seen e) u (getD (seen e .flows s ++ (new ∷ [])) g new)
+  flow-with : (u g : ℕ) → g < suc (flowsIn (e .sessions) (sessionAt p s))
+      → staticallyReads roleCount databaseCount (e .directory .tables .roles) (e .directory .tables .readers) u (reachWith (e .sessions .reaches) (sessionAt p s) (flowsIn (e .sessions) (sessionAt p s)) (reach databaseCount (e .directory .tables .forwards) root) g)
+      ≡ reads (seen e) u (getD (seen e .flows p s ++ (new ∷ [])) g new)
   unfolding reachWith
-  flow-with u g l = rw (getD-snoc (flowsIn (e .sessions) s) (seen e .flows s) new g (length-flows e s)) (go (ltb g (flowsIn (e .sessions) s)) refl)
+  flow-with u g l = rw (getD-snoc (flowsIn (e .sessions) (sessionAt p s)) (seen e .flows p s) new g (length-flows e p s)) (go (ltb g (flowsIn (e .sessions) (sessionAt p s))) refl)
     where
       may : ℕ → Bool
       may m = staticallyReads roleCount databaseCount (e .directory .tables .roles) (e .directory .tables .readers) u m
 
-      go : (b : Bool) → ltb g (flowsIn (e .sessions) s) ≡ b
-          → may (cond b (getD (e .sessions .reaches) (place s g) 0) (cond (eqb g (flowsIn (e .sessions) s)) (reach databaseCount (e .directory .tables .forwards) root) 0))
-          ≡ reads (seen e) u (cond b (getD (seen e .flows s) g new) new)
-      go true h = rw (getD-flows e s g new (ltb-true g (flowsIn (e .sessions) s) h)) (reads-kept e u s g)
+      go : (b : Bool) → ltb g (flowsIn (e .sessions) (sessionAt p s)) ≡ b
+          → may (cond b (getD (e .sessions .reaches) (place (sessionAt p s) g) 0) (cond (eqb g (flowsIn (e .sessions) (sessionAt p s))) (reach databaseCount (e .directory .tables .forwards) root) 0))
+          ≡ reads (seen e) u (cond b (getD (seen e .flows p s) g new) new)
+      go true h = rw (getD-flows e p s g new (ltb-true g (flowsIn (e .sessions) (sessionAt p s)) h)) (reads-kept e u (sessionAt p s) g)
       go false h =
-          let q : g ≡ flowsIn (e .sessions) s = omega (arith, ltb-false g (flowsIn (e .sessions) s) h) in
-          rw (eq-eqb g (flowsIn (e .sessions) s) q) (reads-seen e u new (reach databaseCount (e .directory .tables .forwards) root) fresh)
+          let q : g ≡ flowsIn (e .sessions) (sessionAt p s) = omega (arith, ltb-false g (flowsIn (e .sessions) (sessionAt p s)) h) in
+          rw (eq-eqb g (flowsIn (e .sessions) (sessionAt p s)) q) (reads-seen e u new (reach databaseCount (e .directory .tables .forwards) root) fresh)
 
   -- they are those that the ledger says
-  pub conflicts-seen : (r : ℕ) → r < roleCount → has (conflictsIn (e .directory .tables) (e .sessions) s (reach databaseCount (e .directory .tables .forwards) root)) r ≡ isConflicting (seen e) s new r
+  pub conflicts-seen : (r : ℕ) → r < roleCount → has (conflictsIn (e .directory .tables) (e .sessions) (sessionAt p s) (reach databaseCount (e .directory .tables .forwards) root)) r ≡ isConflicting (seen e) p s new r
   unfolding conflictsIn conflicts isConflicting readsTwoOf
   conflicts-seen r l =
       has-setOf roleCount _ r l
       ∙ some-cong userCount _ _
       (λ u k. and-same (holds-seen e u r l)
       (ap (leb 2)
-      (count-cong (suc (flowsIn (e .sessions) s)) _ _ (λ g m. flow-with u g m)
-      ∙ ap (λ (n : ℕ). count n (λ g. reads (seen e) u (getD (seen e .flows s ++ (new ∷ [])) g new))) (sym (length-snoc (seen e .flows s) new ∙ ap suc (length-flows e s))))))
+      (count-cong (suc (flowsIn (e .sessions) (sessionAt p s))) _ _ (λ g m. flow-with u g m)
+      ∙ ap (λ (n : ℕ). count n (λ g. reads (seen e) u (getD (seen e .flows p s ++ (new ∷ [])) g new))) (sym (length-snoc (seen e .flows p s) new ∙ ap suc (length-flows e p s))))))
 
 -- a chosen role is not among them
-outside-seen : (e : Engine) (s root m : ℕ)
-    → outside roleCount m (conflictsIn (e .directory .tables) (e .sessions) s (reach databaseCount (e .directory .tables .forwards) root)) ≡ some roleCount (λ r. has m r && not (isConflicting (seen e) s (newFlow (seen e) s root m) r))
+outside-seen : (e : Engine) (p : Product) (s root m : ℕ)
+    → outside roleCount m (conflictsIn (e .directory .tables) (e .sessions) (sessionAt p s) (reach databaseCount (e .directory .tables .forwards) root)) ≡ some roleCount (λ r. has m r && not (isConflicting (seen e) p s (newFlow (seen e) p s root m) r))
 unfolding outside newFlow
-outside-seen e s root m = some-cong roleCount _ _ (λ r l. ap (λ (b : Bool). has m r && not b) (conflicts-seen e s root (newFlow (seen e) s root m) (λ d k. reach-seen e root d k) r l))
+outside-seen e p s root m = some-cong roleCount _ _ (λ r l. ap (λ (b : Bool). has m r && not b) (conflicts-seen e p s root (newFlow (seen e) p s root m) (λ d k. reach-seen e root d k) r l))
 
 -- ---- a new version is due and there is none left
 
@@ -181,17 +189,18 @@ last-held e r l = ap (λ (b : Bool). b && eqb (e .directory .version) lastVersio
 
 -- ---- a read of a flow that is there
 
-reached : (e : Engine) (s f d : ℕ) → d < databaseCount → f < flowsIn (e .sessions) s → has (getD (e .sessions .reaches) (place s f) 0) d ≡ flowOf (seen e) s f .reach d
+reached : (e : Engine) (p : Product) (s f d : ℕ) → d < databaseCount → f < flowsIn (e .sessions) (sessionAt p s) → has (getD (e .sessions .reaches) (place (sessionAt p s) f) 0) d ≡ flowOf (seen e) p s f .reach d
 unfolding flowSeen
-reached e s f d l k = bounded databaseCount d (has (getD (e .sessions .reaches) (place s f) 0) d) l ∙ ap (λ (flow : Flow). flow .reach d) (sym (flow-seen e s f k))
+reached e p s f d l k = bounded databaseCount d (has (getD (e .sessions .reaches) (place (sessionAt p s) f) 0) d) l ∙ ap (λ (flow : Flow). flow .reach d) (sym (flow-seen e p s f k))
 
-outdated : (e : Engine) (u s f : ℕ) → f < flowsIn (e .sessions) s → ltb (getD (e .sessions .versions) (place s f) 0) (getD (e .directory .versions) u 0) ≡ ltb (flowOf (seen e) s f .version) (seen e .version u)
+outdated : (e : Engine) (p : Product) (u s f : ℕ) → f < flowsIn (e .sessions) (sessionAt p s)
+    → ltb (getD (e .sessions .versions) (place (sessionAt p s) f) 0) (getD (e .directory .versions) u 0) ≡ ltb (flowOf (seen e) p s f .version) (seen e .version u)
 unfolding flowSeen seen
-outdated e u s f k = ap (λ (flow : Flow). ltb (flow .version) (getD (e .directory .versions) u 0)) (sym (flow-seen e s f k))
+outdated e p u s f k = ap (λ (flow : Flow). ltb (flow .version) (getD (e .directory .versions) u 0)) (sym (flow-seen e p s f k))
 
-stored : (e : Engine) (u s f : ℕ) → links (e .sessions) s f (getD (e .directory .tables .roles) u 0) ≡ storedLinkable e u s f
+stored : (e : Engine) (p : Product) (u s f : ℕ) → links (e .sessions) (sessionAt p s) f (getD (e .directory .tables .roles) u 0) ≡ storedLinkable e p u s f
 unfolding storedLinkable
-stored e u s f = refl
+stored e p u s f = refl
 
 -- ---- every check against every row, group by group
 
@@ -222,55 +231,58 @@ checked-change e (Forward d x) =
     (λ a b. check k FlowAdded _ (any-seen e)
     (λ h. check k AlreadyThere _ (forwards-seen e d x (leb-false databaseCount x b)) (λ j. all-passed (e .directory) _ _ refl)))
 
-checked-ask : (e : Engine) (s : ℕ) (a : Ask)
-    → Checked (e .sessions) (askRows (seen e) s a) (done (askAnswer (e .directory) (e .sessions) s a) (changedSessions (e .directory) (e .sessions) s a)) (ask (e .directory) (e .sessions) s a)
+-- row 2 by all sessions is row 2 by the product's own
+or-limit : (p : Product) (s : ℕ) (b : Bool) → (leb sessionCount s || b) ≡ (leb allSessions (sessionAt p s) || b)
+or-limit p s b = ap (λ (a : Bool). a || b) (sym (session-limit p s))
+
+checked-ask : (e : Engine) (p : Product) (s : ℕ) (a : Ask)
+    → Checked (e .sessions) (askRows (seen e) p s a) (done (askAnswer (e .directory) (e .sessions) (sessionAt p s) a) (changedSessions (e .directory) (e .sessions) (sessionAt p s) a)) (ask (e .directory) (e .sessions) (sessionAt p s) a)
 unfolding ask openSession conflicting add show askRows changedSessions askAnswer sessionOpened numberOf verdictOf
-checked-ask e s Open =
+checked-ask e p s Open =
     let k = changing (e .sessions) in
-    check k AboveLimit _ {a = leb sessionCount s} refl
-    (λ a. check k AlreadyThere _ (opened-seen e s (leb-false sessionCount s a)) (λ j. all-passed (e .sessions) _ _ refl))
-checked-ask e s (Conflicting root) =
+    check k AboveLimit _ (session-limit p s)
+    (λ a. check k AlreadyThere _ (opened-seen e p s) (λ j. all-passed (e .sessions) _ _ refl))
+checked-ask e p s (Conflicting root) =
     let k = asking (e .sessions) in
-    check-two k AboveLimit _ (leb sessionCount s) (leb databaseCount root)
-    (λ a b. check k NotOpen _ (ap not (opened-seen e s (leb-false sessionCount s a)))
-    (λ h. check k SessionFull _ (ap (leb flowCount) (sym (length-flows e s))) (λ j. all-passed (e .sessions) _ _ refl)))
-checked-ask e s (Add root chosen) =
+    check-or k AboveLimit _ (leb allSessions (sessionAt p s)) (leb databaseCount root) _ (or-limit p s _)
+    (λ a. check k AboveLimit _ refl
+    (λ b. check k NotOpen _ (ap not (opened-seen e p s))
+    (λ h. check k SessionFull _ (ap (leb flowCount) (sym (length-flows e p s))) (λ j. all-passed (e .sessions) _ _ refl))))
+checked-ask e p s (Add root chosen) =
     let k = changing (e .sessions) in
-    check-or k AboveLimit _ (leb sessionCount s) (leb databaseCount root || leb (2 ^ roleCount) chosen) _ refl
+    check-or k AboveLimit _ (leb allSessions (sessionAt p s)) (leb databaseCount root || leb (2 ^ roleCount) chosen) _ (or-limit p s _)
     (λ a. check-two k AboveLimit _ (leb databaseCount root) (leb (2 ^ roleCount) chosen)
-    (λ b c. check k NotOpen _ (ap not (opened-seen e s (leb-false sessionCount s a)))
-    (λ h. check k SessionFull _ (ap (leb flowCount) (sym (length-flows e s)))
-    (λ i. check k NotConflicting _ (outside-seen e s root chosen) (λ j. all-passed (e .sessions) _ _ refl)))))
-checked-ask e s (Show f) =
+    (λ b c. check k NotOpen _ (ap not (opened-seen e p s))
+    (λ h. check k SessionFull _ (ap (leb flowCount) (sym (length-flows e p s)))
+    (λ i. check k NotConflicting _ (outside-seen e p s root chosen) (λ j. all-passed (e .sessions) _ _ refl)))))
+checked-ask e p s (Show f) =
     let k = asking (e .sessions) in
-    check-two k AboveLimit _ (leb sessionCount s) (leb flowCount f)
-    (λ a b. check k NotOpen _ (ap not (opened-seen e s (leb-false sessionCount s a)))
-    (λ h. check k NoSuchFlow _ (ap (λ (n : ℕ). leb n f) (sym (length-flows e s))) (λ j. all-passed (e .sessions) _ _ refl)))
+    check-or k AboveLimit _ (leb allSessions (sessionAt p s)) (leb flowCount f) _ (or-limit p s _)
+    (λ a. check k AboveLimit _ refl
+    (λ b. check k NotOpen _ (ap not (opened-seen e p s))
+    (λ h. check k NoSuchFlow _ (ap (λ (n : ℕ). leb n f) (sym (length-flows e p s))) (λ j. all-passed (e .sessions) _ _ refl))))
 
-or-assoc : (a b c : Bool) → ((a || b) || c) ≡ (a || (b || c))
-or-assoc true b c = refl
-or-assoc false b c = refl
-
-checked-read : (e : Engine) (u s f d : ℕ)
-    → Checked e (readRows (seen e) (storedLinkable e) u s f d) (done Answer·Granted e) (done (answerOf (read (e .directory) (e .sessions) u s f d)) e)
+checked-read : (e : Engine) (p : Product) (u s f d : ℕ)
+    → Checked e (readRows (seen e) (storedLinkable e) p u s f d) (done Answer·Granted e) (done (answerOf (read (e .directory) (e .sessions) u (sessionAt p s) f d)) e)
 unfolding read readRows reading answerOf numberOf verdictOf
-checked-read e u s f d =
+checked-read e p u s f d =
     let k = reading e in
     check-or k AboveLimit _ (leb userCount u) (leb databaseCount d || (leb sessionCount s || leb flowCount f)) _ (or-assoc (leb userCount u) (leb databaseCount d) (leb sessionCount s || leb flowCount f))
     (λ a. check-or k AboveLimit _ (leb databaseCount d) (leb sessionCount s || leb flowCount f) _ refl
-    (λ b. check-two k AboveLimit _ (leb sessionCount s) (leb flowCount f)
-    (λ c g. check k NotOpen _ (ap not (opened-seen e s (leb-false sessionCount s c)))
-    (λ h. check k NoSuchFlow _ (ap (λ (n : ℕ). leb n f) (sym (length-flows e s)))
-    (λ j. check k OutOfReach _ (ap not (reached e s f d (leb-false databaseCount d b) (leb-false (flowsIn (e .sessions) s) f j)))
+    (λ b. check-or k AboveLimit _ (leb allSessions (sessionAt p s)) (leb flowCount f) _ (or-limit p s _)
+    (λ c. check k AboveLimit _ refl
+    (λ g. check k NotOpen _ (ap not (opened-seen e p s))
+    (λ h. check k NoSuchFlow _ (ap (λ (n : ℕ). leb n f) (sym (length-flows e p s)))
+    (λ j. check k OutOfReach _ (ap not (reached e p s f d (leb-false databaseCount d b) (leb-false (flowsIn (e .sessions) (sessionAt p s)) f j)))
     (λ l. check k NoPermission _ (ap not (meets-seen e u d))
-    (λ n. check k Changed _ (outdated e u s f (leb-false (flowsIn (e .sessions) s) f j))
-    (λ o. check k Linkable _ (stored e u s f) (λ q. all-passed e _ _ refl)))))))))
+    (λ n. check k Changed _ (outdated e p u s f (leb-false (flowsIn (e .sessions) (sessionAt p s)) f j))
+    (λ o. check k Linkable _ (stored e p u s f) (λ q. all-passed e _ _ refl))))))))))
 
 pub checked : (e : Engine) (c : Call) → Checked e (rows (seen e) (storedLinkable e) c) (done (accepted e c) (changed e c)) (step e c)
 unfolding rows accepted changed step numberOf
 checked e (Table c) = within (λ D. engineOf D (e .sessions)) (checked-change e c)
-checked e (Session s a) = within (λ S. engineOf (e .directory) S) (checked-ask e s a)
-checked e (Read u s f d) = checked-read e u s f d
+checked e (Session p s a) = within (λ S. engineOf (e .directory) S) (checked-ask e p s a)
+checked e (Read p u s f d) = checked-read e p u s f d
 checked e Unreadable = stopped e Malformed [] _
 
 -- ---- what follows of a verdict
@@ -305,11 +317,11 @@ after-cases P e c stay change = go (verdict e c) refl
 -- ---- calls other than reads
 
 -- what row 14 goes by is nothing to them
-pub other-rows : (l : Ledger) (p q : ℕ → ℕ → ℕ → Bool) (c : Call) → isRead c ≡ false → rows l p c ≡ rows l q c
+pub other-rows : (l : Ledger) (p q : Product → ℕ → ℕ → ℕ → Bool) (c : Call) → isRead c ≡ false → rows l p c ≡ rows l q c
 unfolding isRead rows
 other-rows l p q (Table c) h = refl
-other-rows l p q (Session s a) h = refl
-other-rows l p q (Read u s f d) h = absurd (true≢false h)
+other-rows l p q (Session r s a) h = refl
+other-rows l p q (Read r u s f d) h = absurd (true≢false h)
 other-rows l p q Unreadable h = refl
 
 -- the engine accepts such a call exactly when the ledger that sees it does
@@ -346,29 +358,28 @@ within-change e (Revoke r d) h = let a = both roleCount databaseCount r d _ (no-
 within-change e (Forward d x) h = let a = both databaseCount databaseCount d x _ (no-row e (Table (Forward d x)) h) in (a .0, a .1)
 
 -- and the session is not open
-pub within-open : (e : Engine) (s : ℕ) → verdict e (Session s Open) ≡ Granted → (s < sessionCount) × (has (e .sessions .opened) s ≡ false)
+pub within-open : (e : Engine) (p : Product) (s : ℕ) → verdict e (Session p s Open) ≡ Granted → (s < sessionCount) × (has (e .sessions .opened) (sessionAt p s) ≡ false)
 unfolding rows askRows
-within-open e s h =
-    let a = not-met 1 (leb sessionCount s) _ (no-row e (Session s Open) h) in
-    let l = leb-false sessionCount s (a .0) in
-    (l, opened-seen e s l ∙ not-met 2 (seen e .opened s) _ (a .1) .0)
+within-open e p s h =
+    let a = not-met 1 (leb sessionCount s) _ (no-row e (Session p s Open) h) in
+    (leb-false sessionCount s (a .0), opened-seen e p s ∙ not-met 2 (seen e .opened p s) _ (a .1) .0)
 
 -- and the session is open, has room for one flow more, and gets it
-pub within-add : (e : Engine) (s root chosen : ℕ) → verdict e (Session s (Add root chosen)) ≡ Granted
-    → (s < sessionCount) × (root < databaseCount) × (chosen < 2 ^ roleCount) × (has (e .sessions .opened) s ≡ true) × (flowsIn (e .sessions) s < flowCount)
-    × (after e (Session s (Add root chosen)) ≡ engineOf (e .directory) (withFlow (e .directory) (e .sessions) s root (reach databaseCount (e .directory .tables .forwards) root) (joined roleCount (denyBefore (e .sessions .denies) s (flowsIn (e .sessions) s)) chosen)))
+pub within-add : (e : Engine) (p : Product) (s root chosen : ℕ) → verdict e (Session p s (Add root chosen)) ≡ Granted
+    → (s < sessionCount) × (root < databaseCount) × (chosen < 2 ^ roleCount) × (has (e .sessions .opened) (sessionAt p s) ≡ true) × (flowsIn (e .sessions) (sessionAt p s) < flowCount)
+    × (after e (Session p s (Add root chosen))
+    ≡ engineOf (e .directory) (withFlow (e .directory) (e .sessions) (sessionAt p s) root (reach databaseCount (e .directory .tables .forwards) root) (joined roleCount (denyBefore (e .sessions .denies) (sessionAt p s) (flowsIn (e .sessions) (sessionAt p s))) chosen)))
 unfolding rows askRows changed changedSessions
-within-add e s root chosen h =
-    let a = not-met 1 (leb sessionCount s || (leb databaseCount root || leb (2 ^ roleCount) chosen)) _ (no-row e (Session s (Add root chosen)) h) in
+within-add e p s root chosen h =
+    let a = not-met 1 (leb sessionCount s || (leb databaseCount root || leb (2 ^ roleCount) chosen)) _ (no-row e (Session p s (Add root chosen)) h) in
     let b = or-neither (leb sessionCount s) (leb databaseCount root || leb (2 ^ roleCount) chosen) (a .0) in
     let c = or-neither (leb databaseCount root) (leb (2 ^ roleCount) chosen) (b .1) in
-    let l = leb-false sessionCount s (b .0) in
-    let d = not-met 5 (not (seen e .opened s)) _ (a .1) in
-    let f = not-met 6 (leb flowCount (length (seen e .flows s))) _ (d .1) in (
-      l,
+    let d = not-met 5 (not (seen e .opened p s)) _ (a .1) in
+    let f = not-met 6 (leb flowCount (length (seen e .flows p s))) _ (d .1) in (
+      leb-false sessionCount s (b .0),
       leb-false databaseCount root (c .0),
       leb-false (2 ^ roleCount) chosen (c .1),
-      opened-seen e s l ∙ not-false (seen e .opened s) (d .0),
-      leb-false flowCount (flowsIn (e .sessions) s) (rw (length-flows e s) at (f .0)),
-      granted-after e (Session s (Add root chosen)) h,
+      opened-seen e p s ∙ not-false (seen e .opened p s) (d .0),
+      leb-false flowCount (flowsIn (e .sessions) (sessionAt p s)) (rw (length-flows e p s) at (f .0)),
+      granted-after e (Session p s (Add root chosen)) h,
     )

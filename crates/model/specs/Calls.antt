@@ -20,6 +20,7 @@ use Rattle.model.specs.declared.calls.Refusal.{Refusal}
 use Rattle.model.specs.declared.calls.Refusal.the-variants.{Malformed, AboveLimit, AlreadyThere, NotThere, FlowAdded, NotOpen, SessionFull, NotConflicting, VersionsSpent, NoSuchFlow, OutOfReach, NoPermission, Changed, Linkable}
 use Rattle.model.specs.declared.calls.Change.{Change}
 use Rattle.model.specs.declared.calls.Change.the-variants.{Assign, Withdraw, Permit, Revoke, Forward}
+use Rattle.model.specs.declared.calls.Product.{Product}
 use Rattle.model.specs.declared.calls.Ask.{Ask}
 use Rattle.model.specs.declared.calls.Ask.the-variants.{Open, Conflicting, Add, Show}
 use Rattle.model.specs.declared.calls.Call.{Call}
@@ -28,8 +29,8 @@ use Rattle.model.specs.declared.calls.Verdict.{Verdict}
 use Rattle.model.specs.declared.calls.Verdict.the-variants.{Granted, Refused}
 use Rattle.model.specs.declared.calls.Answer.{Answer}
 use Rattle.model.specs.declared.calls.Answer.the-variants.{Version, Roles, Flow, Granted as Answer·Granted, Constraint as Answer·Constraint, Refused as Answer·Refused}
-use Rattle.model.specs.Limits.{sessionCount, flowCount, lastVersion}
-use Rattle.model.specs.State.{directoryOf, sessionsOf, engineOf, filled, place, setPlace, anyFlow, reachWith, conflicts, outside, denyBefore, roleSet, rolesetAt, linkable, newVersion}
+use Rattle.model.specs.Limits.{flowCount, lastVersion}
+use Rattle.model.specs.State.{allSessions, sessionAt, directoryOf, sessionsOf, engineOf, filled, place, setPlace, anyFlow, reachWith, conflicts, outside, denyBefore, roleSet, rolesetAt, linkable, newVersion}
 
 -- ---- the number of each refusal, as document 01's table has it
 
@@ -147,7 +148,7 @@ forward D counts d e =
     (refuse (forwardsTo (D .tables) d e) AlreadyThere D
     (told (withTables D (forwarded (D .tables) d e))))))
 
--- ---- what is asked of a session
+-- ---- what is asked of a session, which has its number among those of both products
 
 abbrev pub flowsIn : Sessions → ℕ → ℕ
 flowsIn S s = getD (S .counts) s 0
@@ -155,7 +156,7 @@ flowsIn S s = getD (S .counts) s 0
 -- 06: rows 2, 3
 unfoldable pub openSession : ℕ → Sessions → ℕ → Done Sessions
 openSession version S s =
-    refuse (leb sessionCount s) AboveLimit S
+    refuse (leb allSessions s) AboveLimit S
     (refuse (has (S .opened) s) AlreadyThere S
     (done (Version version) (sessionsOf (inserted 64 (S .opened) s) (S .counts) (S .roots) (S .reaches) (S .versions) (S .denies) (S .rolesets))))
 
@@ -166,7 +167,7 @@ conflictsIn T S s new = conflicts roleCount userCount databaseCount T (suc (flow
 -- 07: rows 2, 6, 7
 unfoldable pub conflicting : Tables → Sessions → ℕ → ℕ → Answer
 conflicting T S s root =
-    unless (leb sessionCount s) AboveLimit
+    unless (leb allSessions s) AboveLimit
     (unless (leb databaseCount root) AboveLimit
     (unless (not (has (S .opened) s)) NotOpen
     (unless (leb flowCount (flowsIn S s)) SessionFull
@@ -187,7 +188,7 @@ unfoldable pub add : Directory → Sessions → ℕ → ℕ → ℕ → Done Ses
 add D S s root chosen =
     let n : ℕ = flowsIn S s in
     let new : ℕ = reach databaseCount (D .tables .forwards) root in
-    refuse (leb sessionCount s) AboveLimit S
+    refuse (leb allSessions s) AboveLimit S
     (refuse (leb databaseCount root) AboveLimit S
     (refuse (leb (2 ^ roleCount) chosen) AboveLimit S
     (refuse (not (has (S .opened) s)) NotOpen S
@@ -198,7 +199,7 @@ add D S s root chosen =
 -- 0a: rows 2, 6, 10
 unfoldable pub show : Sessions → ℕ → ℕ → Answer
 show S s f =
-    unless (leb sessionCount s) AboveLimit
+    unless (leb allSessions s) AboveLimit
     (unless (leb flowCount f) AboveLimit
     (unless (not (has (S .opened) s)) NotOpen
     (unless (leb (flowsIn S s) f) NoSuchFlow
@@ -215,7 +216,7 @@ read D S u s f d =
     let held : ℕ = getD (D .tables .roles) u 0 in
     bar (leb userCount u) AboveLimit
     (bar (leb databaseCount d) AboveLimit
-    (bar (leb sessionCount s) AboveLimit
+    (bar (leb allSessions s) AboveLimit
     (bar (leb flowCount f) AboveLimit
     (bar (not (has (S .opened) s)) NotOpen
     (bar (leb (flowsIn S s) f) NoSuchFlow
@@ -229,7 +230,7 @@ unfoldable pub answerOf : Verdict → Answer
 answerOf Granted = Answer·Granted
 answerOf (Refused why) = Answer·Refused why
 
--- ---- any call, group by group
+-- ---- any call, group by group; of a product's session its number is taken
 
 unfoldable pub change : Directory → List ℕ → Change → Done Directory
 change D counts (Assign u r) = assign D u r
@@ -246,8 +247,8 @@ ask D S s (Show f) = done (show S s f) S
 
 unfoldable pub step : Engine → Call → Done Engine
 step e (Table c) = let x : Done Directory = change (e .directory) (e .sessions .counts) c in done (x .answer) (engineOf (x .after) (e .sessions))
-step e (Session s a) = let x : Done Sessions = ask (e .directory) (e .sessions) s a in done (x .answer) (engineOf (e .directory) (x .after))
-step e (Read u s f d) = done (answerOf (read (e .directory) (e .sessions) u s f d)) e
+step e (Session p s a) = let x : Done Sessions = ask (e .directory) (e .sessions) (sessionAt p s) a in done (x .answer) (engineOf (e .directory) (x .after))
+step e (Read p u s f d) = done (answerOf (read (e .directory) (e .sessions) u (sessionAt p s) f d)) e
 step e Unreadable = done (Answer·Refused Malformed) e
 
 -- a call's answer, its verdict, and the engine after it
@@ -267,9 +268,9 @@ unfoldable pub constraintAt : Sessions → ℕ → ℕ → Constraint
 constraintAt S s f = record { version = getD (S .versions) (place s f) 0; deny = getD (S .denies) (place s f) 0; roles = filled 0 (rolesetAt (S .rolesets) s f) flowCount (replicate flowCount 0) }
 
 -- zero beside a refusal: "nothing but the number is returned"
-unfoldable pub shownBy : Engine → ℕ → ℕ → Shown
-shownBy e s f = record { answer = show (e .sessions) s f; constraint = shownConstraint (verdictOf (show (e .sessions) s f)) }
+unfoldable pub shownBy : Engine → Product → ℕ → ℕ → Shown
+shownBy e p s f = record { answer = show (e .sessions) (sessionAt p s) f; constraint = shownConstraint (verdictOf (show (e .sessions) (sessionAt p s) f)) }
   where
     shownConstraint : Verdict → Constraint
-    shownConstraint Granted = constraintAt (e .sessions) s f
+    shownConstraint Granted = constraintAt (e .sessions) (sessionAt p s) f
     shownConstraint (Refused why) = record { version = 0; deny = 0; roles = replicate flowCount 0 }

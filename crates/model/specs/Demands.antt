@@ -17,19 +17,19 @@ use Rattle.model.specs.declared.calls.Answer.{Answer}
 use Rattle.model.specs.declared.calls.Answer.the-variants.{Version, Roles, Flow, Granted as Answer·Granted, Constraint as Answer·Constraint, Refused as Answer·Refused}
 use Rattle.model.specs.declared.calls.Change.{Change}
 use Rattle.model.specs.declared.calls.Change.the-variants.{Assign, Withdraw, Permit, Revoke, Forward}
+use Rattle.model.specs.declared.calls.Product.{Product}
 use Rattle.model.specs.declared.calls.Ask.the-variants.{Open, Conflicting, Add, Show}
 use Rattle.model.specs.declared.calls.Call.{Call}
 use Rattle.model.specs.declared.calls.Call.the-variants.{Table, Session, Read, Unreadable}
 use Rattle.model.specs.declared.calls.Verdict.{Verdict}
 use Rattle.model.specs.declared.calls.Verdict.the-variants.{Granted, Refused}
-use Rattle.model.specs.Limits.{sessionCount}
-use Rattle.model.specs.State.{fresh, place}
+use Rattle.model.specs.State.{fresh, sessionAt, place}
 use Rattle.model.specs.Calls.{returned, links, answer, verdict, after, flowsIn}
 use Rattle.model.specs.Ledger.{Ledger, start, flowOf, reachOf, isConflicting, holdsDenied, linked}
 use Rattle.model.specs.Ledger.{Flow as Flow·}
 use Rattle.model.specs.Refusals.{rows, firstMet, refusal, earlierRefusal, accepts, newFlow, ledgerAfter}
 
--- ---- an engine as a ledger sees it
+-- ---- an engine as a ledger sees it: its sessions are those of both products, session s of product p with the number `sessionAt p s`
 
 -- the list of p 0, p 1, .. up to p (n - 1)
 unfoldable pub listOf : {A : Type 0} → ℕ → (ℕ → A) → List A
@@ -51,13 +51,13 @@ seen e = record {
   forwards = λ d x. ltb x databaseCount && forwardsTo (e .directory .tables) d x;
   system = e .directory .version;
   version = λ u. getD (e .directory .versions) u 0;
-  opened = λ s. ltb s 64 && has (e .sessions .opened) s;
-  flows = λ s. listOf (flowsIn (e .sessions) s) (flowSeen e s);
+  opened = λ p s. has (e .sessions .opened) (sessionAt p s);
+  flows = λ p s. listOf (flowsIn (e .sessions) (sessionAt p s)) (flowSeen e (sessionAt p s));
 }
 
 -- row 14 as an engine goes by it: its stored constraint
-unfoldable pub storedLinkable : Engine → ℕ → ℕ → ℕ → Bool
-storedLinkable e u s f = links (e .sessions) s f (getD (e .directory .tables .roles) u 0)
+unfoldable pub storedLinkable : Engine → Product → ℕ → ℕ → ℕ → Bool
+storedLinkable e p u s f = links (e .sessions) (sessionAt p s) f (getD (e .directory .tables .roles) u 0)
 
 -- ---- demand 1, for every engine and every call
 
@@ -65,15 +65,15 @@ storedLinkable e u s f = links (e .sessions) s f (getD (e .directory .tables .ro
 abbrev pub Told : Ledger → Ledger → Call → Answer → Type 0
 -- "for 01–06 the system version"
 Told l m (Table c) a = a ≡ Version (m .system)
-Told l m (Session s Open) a = a ≡ Version (m .system)
+Told l m (Session p s Open) a = a ≡ Version (m .system)
 -- "for 07 the role set": the conflicting roles with a flow of this root counted in
-Told l m (Session s (Conflicting root)) a = (x : ℕ) × (a ≡ Roles x) × ((r : ℕ) → r < roleCount → has x r ≡ isConflicting l s (newFlow l s root 0) r)
+Told l m (Session p s (Conflicting root)) a = (x : ℕ) × (a ≡ Roles x) × ((r : ℕ) → r < roleCount → has x r ≡ isConflicting l p s (newFlow l p s root 0) r)
 -- "for 08 flow number, count of databases in the reach, version"
-Told l m (Session s (Add root chosen)) a = a ≡ Flow (length (l .flows s)) (count databaseCount (reachOf l root)) (l .system)
+Told l m (Session p s (Add root chosen)) a = a ≡ Flow (length (l .flows p s)) (count databaseCount (reachOf l root)) (l .system)
 -- for 0a the constraint of that flow
-Told l m (Session s (Show f)) a = a ≡ Answer·Constraint s f
+Told l m (Session p s (Show f)) a = a ≡ Answer·Constraint (sessionAt p s) f
 -- "for 09 nothing"
-Told l m (Read u s f d) a = a ≡ Answer·Granted
+Told l m (Read p u s f d) a = a ≡ Answer·Granted
 Told l m Unreadable a = ⊥
 
 pub record Demand1 (e : Engine) (c : Call) : Type 0 where
@@ -102,8 +102,8 @@ ledgerAt cs i = ledgerAfter start (take i cs)
 
 unfoldable pub isRead : Call → Bool
 isRead (Table c) = false
-isRead (Session s a) = false
-isRead (Read u s f d) = true
+isRead (Session p s a) = false
+isRead (Read p u s f d) = true
 isRead Unreadable = false
 
 -- the change withdraws a role from user u, or a permission from a role that u then holds
@@ -125,16 +125,16 @@ pub record Demand3 (cs : List Call) : Type 0 where
       → eqb (returned (verdict (engineAt cs i) (callAt cs i))) 0 ≡ accepts (ledgerAt cs i) (callAt cs i)
   -- second half: "a read that meets no earlier row is refused as linkable exactly when its user, by the tables of that moment, holds a role
   -- of the flow's deny set and may read at least two flows of the session, counted up to and including that one; otherwise it is granted"
-  pub second : (i u s f d : ℕ) → i < length cs → callAt cs i ≡ Read u s f d
-      → earlierRefusal (ledgerAt cs i) (Read u s f d) ≡ 0
-      → verdict (engineAt cs i) (Read u s f d) ≡ cond (linked (ledgerAt cs i) u s f) (Refused Linkable) Granted
-  -- first half: "no user is granted reads of two flows of one session". The two reads are call i and call j, of flows f and g.
-  pub first : (i j u s f g d e : ℕ) → i < j → j < length cs
-      → callAt cs i ≡ Read u s f d → callAt cs j ≡ Read u s g e → f ≢ g
-      → verdict (engineAt cs i) (Read u s f d) ≡ Granted → verdict (engineAt cs j) (Read u s g e) ≡ Granted
+  pub second : (p : Product) (i u s f d : ℕ) → i < length cs → callAt cs i ≡ Read p u s f d
+      → earlierRefusal (ledgerAt cs i) (Read p u s f d) ≡ 0
+      → verdict (engineAt cs i) (Read p u s f d) ≡ cond (linked (ledgerAt cs i) p u s f) (Refused Linkable) Granted
+  -- first half: "no user is granted reads of two flows of one session", "of one product's session" (K1). The two reads are call i and call j, of flows f and g.
+  pub first : (p : Product) (i j u s f g d e : ℕ) → i < j → j < length cs
+      → callAt cs i ≡ Read p u s f d → callAt cs j ≡ Read p u s g e → f ≢ g
+      → verdict (engineAt cs i) (Read p u s f d) ≡ Granted → verdict (engineAt cs j) (Read p u s g e) ≡ Granted
       -- "at the read of the flow added later the user holds a role of its deny set"
-      → (f < g → holdsDenied (ledgerAt cs j) u (flowOf (ledgerAt cs j) s g) ≡ true)
-      → (g < f → holdsDenied (ledgerAt cs i) u (flowOf (ledgerAt cs i) s f) ≡ true)
+      → (f < g → holdsDenied (ledgerAt cs j) u (flowOf (ledgerAt cs j) p s g) ≡ true)
+      → (g < f → holdsDenied (ledgerAt cs i) u (flowOf (ledgerAt cs i) p s f) ≡ true)
       -- "between the two reads no role was withdrawn from the user and no permission from a role the user then held"; "Only accepted withdrawals and revocations count"
       → ((k : ℕ) (c : Change) → i < k → k < j → callAt cs k ≡ Table c → accepts (ledgerAt cs k) (Table c) ≡ true → takesFrom (ledgerAt cs k) u c ≡ false)
       → ⊥

@@ -6,3 +6,4 @@ pub mod Refusals
 pub mod Demands
 pub mod Meaning
 pub mod Lasting
+pub mod Products

@@ -2,7 +2,7 @@
 -- Assumes nothing.
 use Prim.Native.Nat.{ℕ}
 
--- "sessions 0–15"
+-- "sessions 0–15", and by K1 "Each has sixteen sessions of its own"
 abbrev pub sessionCount : ℕ
 sessionCount = 16
 

@@ -14,13 +14,14 @@ use Rattle.model.specs.declared.calls.Refusal.{Refusal}
 use Rattle.model.specs.declared.calls.Refusal.the-variants.{Changed, Linkable}
 use Rattle.model.specs.declared.calls.Change.{Change}
 use Rattle.model.specs.declared.calls.Change.the-variants.{Assign, Withdraw, Permit, Revoke, Forward}
+use Rattle.model.specs.declared.calls.Product.{Product}
 use Rattle.model.specs.declared.calls.Ask.the-variants.{Open, Conflicting, Add, Show}
 use Rattle.model.specs.declared.calls.Call.{Call}
 use Rattle.model.specs.declared.calls.Call.the-variants.{Table, Session, Read, Unreadable}
 use Rattle.model.specs.declared.calls.Verdict.the-variants.{Granted, Refused}
 use Rattle.model.specs.declared.calls.Answer.the-variants.{Roles, Constraint as Answer·Constraint, Refused as Answer·Refused}
 use Rattle.model.specs.Limits.{sessionCount, flowCount}
-use Rattle.model.specs.State.{place, reachWith, conflicts, outside, roleSet, linkable, rolesetAt}
+use Rattle.model.specs.State.{allSessions, sessionAt, place, reachWith, conflicts, outside, roleSet, linkable, rolesetAt}
 use Rattle.model.specs.Calls.{flowsIn, conflictsIn, answer, verdict, after, shownBy}
 
 -- ---- words
@@ -35,6 +36,15 @@ Two n P = (i : ℕ) × (j : ℕ) × (i < j) × (j < n) × P i × P j
 -- two sets of R roles meet
 abbrev pub Meets : ℕ → ℕ → ℕ → Type 0
 Meets R x y = One R (λ r. (has x r ≡ true) × (has y r ≡ true))
+
+-- ---- sessions
+
+-- K1, "Each has sixteen sessions of its own": every session of either product has a number of its own among all of them.
+-- Below, s and t are such numbers where no product is named.
+pub record NumbersMean : Type 0 where
+  pub within : (p : Product) (s : ℕ) → s < sessionCount → sessionAt p s < allSessions
+  pub above : (p : Product) (s : ℕ) → sessionCount ≤ s → sessionAt p s ≡ allSessions
+  pub apart : (p q : Product) (s t : ℕ) → s < sessionCount → t < sessionCount → sessionAt p s ≡ sessionAt q t → (p ≡ q) × (s ≡ t)
 
 -- of an engine: how many flows session s has, and what is kept of flow f, with the role set for flow g
 abbrev pub flowsOf : Engine → ℕ → ℕ
@@ -93,15 +103,15 @@ countedIn e s root = reachWith (e .sessions .reaches) s (flowsOf e s) (reach dat
 abbrev pub conflictsOf : Engine → ℕ → ℕ → ℕ
 conflictsOf e s root = conflictsIn (e .directory .tables) (e .sessions) s (reach databaseCount (e .directory .tables .forwards) root)
 
-pub record QueryMeans (e : Engine) (s root : ℕ) : Type 0 where
+pub record QueryMeans (e : Engine) (p : Product) (s root : ℕ) : Type 0 where
   -- "conflicting roles, with a flow of root dd counted in but not added": of the flows that are there and one more
-  pub conflicting : (c : ℕ) → (has (conflictsOf e s root) c ≡ true)
-      ↔ ((c < roleCount) × One userCount (λ u. (holds (e .directory .tables) u c ≡ true) × ReadsTwo roleCount databaseCount (e .directory .tables) u (suc (flowsOf e s)) (countedIn e s root)))
+  pub conflicting : (c : ℕ) → (has (conflictsOf e (sessionAt p s) root) c ≡ true)
+      ↔ ((c < roleCount) × One userCount (λ u. (holds (e .directory .tables) u c ≡ true) × ReadsTwo roleCount databaseCount (e .directory .tables) u (suc (flowsOf e (sessionAt p s))) (countedIn e (sessionAt p s) root)))
   -- the flows that are there have the reach that is kept, and the new one has the root's
-  pub older : (g : ℕ) → g < flowsOf e s → countedIn e s root g ≡ reachOf e s g
-  pub newest : countedIn e s root (flowsOf e s) ≡ reach databaseCount (e .directory .tables .forwards) root
+  pub older : (g : ℕ) → g < flowsOf e (sessionAt p s) → countedIn e (sessionAt p s) root g ≡ reachOf e (sessionAt p s) g
+  pub newest : countedIn e (sessionAt p s) root (flowsOf e (sessionAt p s)) ≡ reach databaseCount (e .directory .tables .forwards) root
   -- "for 07 the role set"
-  pub answered : verdict e (Session s (Conflicting root)) ≡ Granted → answer e (Session s (Conflicting root)) ≡ Roles (conflictsOf e s root)
+  pub answered : verdict e (Session p s (Conflicting root)) ≡ Granted → answer e (Session p s (Conflicting root)) ≡ Roles (conflictsOf e (sessionAt p s) root)
 
 -- ---- new versions
 
@@ -145,7 +155,7 @@ pub record SameFlow (old new : Engine) (s f : ℕ) : Type 0 where
 
 pub record Opened (old new : Engine) (s : ℕ) : Type 0 where
   -- "An accepted opening: the session is there, without flows." The others are as before.
-  pub opened : (t : ℕ) → t < sessionCount → (has (new .sessions .opened) t ≡ true) ↔ ((has (old .sessions .opened) t ≡ true) ⊎ (t ≡ s))
+  pub opened : (t : ℕ) → t < allSessions → (has (new .sessions .opened) t ≡ true) ↔ ((has (old .sessions .opened) t ≡ true) ⊎ (t ≡ s))
   pub flowless : flowsOf new s ≡ 0
   pub counts : (t : ℕ) → flowsOf new t ≡ flowsOf old t
   pub flows : (t f : ℕ) → SameFlow old new t f
@@ -179,59 +189,60 @@ pub record Added (old new : Engine) (s root chosen : ℕ) : Type 0 where
 -- call by call; "A refused call, a query or a read: it stays as it is"; what is no frame is never accepted
 abbrev pub Means : Engine → Engine → Call → Type 0
 Means old new (Table c) = Changes old new c × (new .sessions ≡ old .sessions)
-Means old new (Session s Open) = Opened old new s
-Means old new (Session s (Conflicting root)) = new ≡ old
-Means old new (Session s (Add root chosen)) = Added old new s root chosen
-Means old new (Session s (Show f)) = new ≡ old
-Means old new (Read u s f d) = new ≡ old
+Means old new (Session p s Open) = Opened old new (sessionAt p s)
+Means old new (Session p s (Conflicting root)) = new ≡ old
+Means old new (Session p s (Add root chosen)) = Added old new (sessionAt p s) root chosen
+Means old new (Session p s (Show f)) = new ≡ old
+Means old new (Read p u s f d) = new ≡ old
 Means old new Unreadable = ⊥
 
 -- For any engine by value, reached by calls or not: what an accepted change or opening leaves, and that a question or a read leaves all.
 -- The versions of a value are an array of 256; a session that is opened has no flows yet.
 pub record ValueMeans (e : Engine) : Type 0 where
   pub change : (c : Change) → length (e .directory .versions) ≡ userCount → verdict e (Table c) ≡ Granted → Means e (after e (Table c)) (Table c)
-  pub opening : (s : ℕ) → flowsOf e s ≡ 0 → verdict e (Session s Open) ≡ Granted → Means e (after e (Session s Open)) (Session s Open)
-  pub query : (s root : ℕ) → after e (Session s (Conflicting root)) ≡ e
-  pub shown : (s f : ℕ) → after e (Session s (Show f)) ≡ e
-  pub read : (u s f d : ℕ) → after e (Read u s f d) ≡ e
+  pub opening : (p : Product) (s : ℕ) → flowsOf e (sessionAt p s) ≡ 0 → verdict e (Session p s Open) ≡ Granted → Means e (after e (Session p s Open)) (Session p s Open)
+  pub query : (p : Product) (s root : ℕ) → after e (Session p s (Conflicting root)) ≡ e
+  pub shown : (p : Product) (s f : ℕ) → after e (Session p s (Show f)) ≡ e
+  pub read : (p : Product) (u s f d : ℕ) → after e (Read p u s f d) ≡ e
 
 -- ---- the verdict on a read
 
--- "After the checks in the table": the read of flow f of session s at database d by user u meets no row before 13
-pub record Checked (e : Engine) (u s f d : ℕ) : Type 0 where
+-- "After the checks in the table": the read of flow f of product p's session s at database d by user u meets no row before 13
+pub record Checked (e : Engine) (p : Product) (u s f d : ℕ) : Type 0 where
   -- 2: "above its limit"
   pub user : u < userCount
   pub database : d < databaseCount
   pub session : s < sessionCount
   pub flow : f < flowCount
   -- 6: "the session isn't open"; 10: "the session has no flow of that number"
-  pub opened : has (e .sessions .opened) s ≡ true
-  pub counted : f < flowsOf e s
+  pub opened : has (e .sessions .opened) (sessionAt p s) ≡ true
+  pub counted : f < flowsOf e (sessionAt p s)
   -- 11: "the database isn't in the flow's reach"; 12: "no role of the user may read that database"
-  pub reached : has (reachOf e s f) d ≡ true
+  pub reached : has (reachOf e (sessionAt p s) f) d ≡ true
   pub permitted : One roleCount (λ r. (holds (e .directory .tables) u r ≡ true) × (mayRead (e .directory .tables) r d ≡ true))
 
 -- "A read is answered as granted, or as refused with its number."
-pub record ReadMeans (e : Engine) (u s f d : ℕ) : Type 0 where
+pub record ReadMeans (e : Engine) (p : Product) (u s f d : ℕ) : Type 0 where
   -- "refused as changed if u's version is greater than f's"
-  pub changed : (verdict e (Read u s f d) ≡ Refused Changed) ↔ (Checked e u s f d × (versionOf e s f < userVersion e u))
+  pub changed : (verdict e (Read p u s f d) ≡ Refused Changed) ↔ (Checked e p u s f d × (versionOf e (sessionAt p s) f < userVersion e u))
   -- "refused as linkable if u holds a role of f's deny set and u's roles meet at least two of f's role sets"
-  pub linkable : (verdict e (Read u s f d) ≡ Refused Linkable)
-      ↔ (Checked e u s f d × (userVersion e u ≤ versionOf e s f) × Links roleCount flowCount (heldOf e u) (denyOf e s f) (rolesOf e s f))
+  pub linkable : (verdict e (Read p u s f d) ≡ Refused Linkable)
+      ↔ (Checked e p u s f d × (userVersion e u ≤ versionOf e (sessionAt p s) f) × Links roleCount flowCount (heldOf e u) (denyOf e (sessionAt p s) f) (rolesOf e (sessionAt p s) f))
   -- "else granted"
-  pub granted : (verdict e (Read u s f d) ≡ Granted)
-      ↔ (Checked e u s f d × (userVersion e u ≤ versionOf e s f) × (Links roleCount flowCount (heldOf e u) (denyOf e s f) (rolesOf e s f) → ⊥))
+  pub granted : (verdict e (Read p u s f d) ≡ Granted)
+      ↔ (Checked e p u s f d × (userVersion e u ≤ versionOf e (sessionAt p s) f) × (Links roleCount flowCount (heldOf e u) (denyOf e (sessionAt p s) f) (rolesOf e (sessionAt p s) f) → ⊥))
 
 -- ---- 0a
 
-pub record ShowMeans (e : Engine) (s f : ℕ) : Type 0 where
+pub record ShowMeans (e : Engine) (p : Product) (s f : ℕ) : Type 0 where
   -- "nothing but the number is returned": the constraint beside a refusal is all zero
-  pub refused : (why : Refusal) → verdict e (Session s (Show f)) ≡ Refused why
-      → shownBy e s f ≡ record { answer = Answer·Refused why; constraint = record { version = 0; deny = 0; roles = replicate flowCount 0 } }
+  pub refused : (why : Refusal) → verdict e (Session p s (Show f)) ≡ Refused why
+      → shownBy e p s f ≡ record { answer = Answer·Refused why; constraint = record { version = 0; deny = 0; roles = replicate flowCount 0 } }
   -- "for 0a version, deny set, then the role sets from flow 0 on": those of that flow
-  pub granted : verdict e (Session s (Show f)) ≡ Granted
-      → (shownBy e s f .answer ≡ Answer·Constraint s f) × (shownBy e s f .constraint .version ≡ versionOf e s f) × (shownBy e s f .constraint .deny ≡ denyOf e s f)
-      × ((g : ℕ) → g < flowCount → getD (shownBy e s f .constraint .roles) g 0 ≡ rolesOf e s f g)
+  pub granted : verdict e (Session p s (Show f)) ≡ Granted
+      → (shownBy e p s f .answer ≡ Answer·Constraint (sessionAt p s) f) × (shownBy e p s f .constraint .version ≡ versionOf e (sessionAt p s) f)
+      × (shownBy e p s f .constraint .deny ≡ denyOf e (sessionAt p s) f)
+      × ((g : ℕ) → g < flowCount → getD (shownBy e p s f .constraint .roles) g 0 ≡ rolesOf e (sessionAt p s) f g)
 
 -- ---- "A fresh engine has 256 user versions of zero, system version 0, empty tables and no open session."
 

@@ -1,4 +1,4 @@
--- Document 01's refusal table ("Returned when refused") over the ledger, and how the ledger takes a call.
+-- Document 01's refusal table ("Returned when refused") over the ledger, with K1's two products, and how the ledger takes a call.
 -- Assumes nothing.
 use Prim.Native.Nat.{ℕ, _+_, _^_}
 use mathlib.Core.Bool.{Bool, true, false, cond, not, _&&_, _||_}
@@ -9,12 +9,14 @@ use Rattle.sets.specs.Sets.{has, some}
 use Rattle.tables.specs.Tables.{userCount, roleCount, databaseCount}
 use Rattle.model.specs.declared.calls.Change.{Change}
 use Rattle.model.specs.declared.calls.Change.the-variants.{Assign, Withdraw, Permit, Revoke, Forward}
+use Rattle.model.specs.declared.calls.Product.{Product}
+use Rattle.model.specs.declared.calls.Product.the-variants.{Server, TermBank}
 use Rattle.model.specs.declared.calls.Ask.{Ask}
 use Rattle.model.specs.declared.calls.Ask.the-variants.{Open, Conflicting, Add, Show}
 use Rattle.model.specs.declared.calls.Call.{Call}
 use Rattle.model.specs.declared.calls.Call.the-variants.{Table, Session, Read, Unreadable}
 use Rattle.model.specs.Limits.{sessionCount, flowCount, lastVersion}
-use Rattle.model.specs.Ledger.{Ledger, Flow, flowOf, reachOf, isConflicting, linked}
+use Rattle.model.specs.Ledger.{Ledger, Flow, same, flowOf, reachOf, isConflicting, linked}
 
 -- the users who are due a new version from a change ("Tables and versions"); no other call gives one
 unfoldable pub due : Ledger → Change → ℕ → Bool
@@ -28,9 +30,9 @@ due l (Forward d e) w = false
 unfoldable pub spent : Ledger → Change → Bool
 spent l c = some userCount (due l c) && eqb (l .system) lastVersion
 
--- 5: "some flow has been added in any session"
+-- 5: "some flow has been added in any session"; "Forwarding closes with the first flow of either product" (K1)
 unfoldable pub flowAdded : Ledger → Bool
-flowAdded l = some sessionCount (λ s. ltb 0 (length (l .flows s)))
+flowAdded l = some sessionCount (λ s. ltb 0 (length (l .flows Server s))) || some sessionCount (λ s. ltb 0 (length (l .flows TermBank s)))
 
 -- the deny set of the last flow, "empty for flow 0"
 unfoldable pub lastDeny : List Flow → ℕ → Bool
@@ -40,8 +42,8 @@ lastDeny (flow ∷ next ∷ flows) r = lastDeny (next ∷ flows) r
 
 -- the flow that an addition brings: "its root, its reach by the forwarding table now, the system version as its version,
 -- and as deny set that of the flow before it joined with the chosen set"
-unfoldable pub newFlow : Ledger → ℕ → ℕ → ℕ → Flow
-newFlow l s root chosen = record { root = root; reach = reachOf l root; version = l .system; deny = λ r. lastDeny (l .flows s) r || has chosen r }
+unfoldable pub newFlow : Ledger → Product → ℕ → ℕ → ℕ → Flow
+newFlow l p s root chosen = record { root = root; reach = reachOf l root; version = l .system; deny = λ r. lastDeny (l .flows p s) r || has chosen r }
 
 -- ---- the table by calls: the numbers that a call can return, in the order of its checks, and when each is met
 
@@ -54,34 +56,34 @@ changeRows l (Revoke r d) = (2, leb roleCount r || leb databaseCount d) ∷ (4, 
 -- 3 "after 5"
 changeRows l (Forward d e) = (2, leb databaseCount d || leb databaseCount e) ∷ (5, flowAdded l) ∷ (3, l .forwards d e) ∷ []
 
--- 06, 07, 08, 0a; a chosen role above its limit would make a number above 64 bits
-unfoldable pub askRows : Ledger → ℕ → Ask → List (ℕ × Bool)
-askRows l s Open = (2, leb sessionCount s) ∷ (3, l .opened s) ∷ []
-askRows l s (Conflicting d) = (2, leb sessionCount s || leb databaseCount d) ∷ (6, not (l .opened s)) ∷ (7, leb flowCount (length (l .flows s))) ∷ []
-askRows l s (Add d m) =
+-- 06, 07, 08, 0a of the server, and 0b, 0c, 0d, 0f of the term bank; a chosen role above its limit would make a number above 64 bits
+unfoldable pub askRows : Ledger → Product → ℕ → Ask → List (ℕ × Bool)
+askRows l p s Open = (2, leb sessionCount s) ∷ (3, l .opened p s) ∷ []
+askRows l p s (Conflicting d) = (2, leb sessionCount s || leb databaseCount d) ∷ (6, not (l .opened p s)) ∷ (7, leb flowCount (length (l .flows p s))) ∷ []
+askRows l p s (Add d m) =
     (2, leb sessionCount s || (leb databaseCount d || leb (2 ^ roleCount) m))
-    ∷ (6, not (l .opened s))
-    ∷ (7, leb flowCount (length (l .flows s)))
-    ∷ (8, some roleCount (λ r. has m r && not (isConflicting l s (newFlow l s d m) r)))
+    ∷ (6, not (l .opened p s))
+    ∷ (7, leb flowCount (length (l .flows p s)))
+    ∷ (8, some roleCount (λ r. has m r && not (isConflicting l p s (newFlow l p s d m) r)))
     ∷ []
-askRows l s (Show f) = (2, leb sessionCount s || leb flowCount f) ∷ (6, not (l .opened s)) ∷ (10, leb (length (l .flows s)) f) ∷ []
+askRows l p s (Show f) = (2, leb sessionCount s || leb flowCount f) ∷ (6, not (l .opened p s)) ∷ (10, leb (length (l .flows p s)) f) ∷ []
 
--- 09. What row 14 goes by is handed in: the ledger has its own test, and an engine goes by its stored constraint.
-unfoldable pub readRows : Ledger → (ℕ → ℕ → ℕ → Bool) → ℕ → ℕ → ℕ → ℕ → List (ℕ × Bool)
-readRows l links u s f d =
+-- 09, and 0e. What row 14 goes by is handed in: the ledger has its own test, and an engine goes by its stored constraint.
+unfoldable pub readRows : Ledger → (Product → ℕ → ℕ → ℕ → Bool) → Product → ℕ → ℕ → ℕ → ℕ → List (ℕ × Bool)
+readRows l links p u s f d =
     (2, (leb userCount u || leb databaseCount d) || (leb sessionCount s || leb flowCount f))
-    ∷ (6, not (l .opened s))
-    ∷ (10, leb (length (l .flows s)) f)
-    ∷ (11, not (flowOf l s f .reach d))
+    ∷ (6, not (l .opened p s))
+    ∷ (10, leb (length (l .flows p s)) f)
+    ∷ (11, not (flowOf l p s f .reach d))
     ∷ (12, not (some roleCount (λ r. l .holds u r && l .mayRead r d)))
-    ∷ (13, ltb (flowOf l s f .version) (l .version u))
-    ∷ (14, links u s f)
+    ∷ (13, ltb (flowOf l p s f .version) (l .version u))
+    ∷ (14, links p u s f)
     ∷ []
 
-unfoldable pub rows : Ledger → (ℕ → ℕ → ℕ → Bool) → Call → List (ℕ × Bool)
+unfoldable pub rows : Ledger → (Product → ℕ → ℕ → ℕ → Bool) → Call → List (ℕ × Bool)
 rows l links (Table c) = changeRows l c
-rows l links (Session s a) = askRows l s a
-rows l links (Read u s f d) = readRows l links u s f d
+rows l links (Session p s a) = askRows l p s a
+rows l links (Read p u s f d) = readRows l links p u s f d
 rows l links Unreadable = (1, true) ∷ []
 
 -- the number of the first row that is met, and 0 where none is
@@ -94,7 +96,7 @@ unfoldable pub refusal : Ledger → Call → ℕ
 refusal l c = firstMet (rows l (linked l) c)
 
 unfoldable pub earlierRefusal : Ledger → Call → ℕ
-earlierRefusal l c = firstMet (rows l (λ u s f. false) c)
+earlierRefusal l c = firstMet (rows l (λ p u s f. false) c)
 
 -- "It accepts a call other than a read exactly when the call meets no row"
 unfoldable pub accepts : Ledger → Call → Bool
@@ -132,31 +134,31 @@ renewed l named = record {
   flows = l .flows;
 }
 
--- session s is there, with these flows
-unfoldable pub withFlows : Ledger → ℕ → List Flow → Ledger
-withFlows l s flows = record {
+-- session s of product p is there, with these flows; all others are as they were
+unfoldable pub withFlows : Ledger → Product → ℕ → List Flow → Ledger
+withFlows l p s flows = record {
   holds = l .holds;
   mayRead = l .mayRead;
   forwards = l .forwards;
   system = l .system;
   version = l .version;
-  opened = λ t. l .opened t || eqb t s;
-  flows = λ t. cond (eqb t s) flows (l .flows t);
+  opened = λ q t. l .opened q t || (same q p && eqb t s);
+  flows = λ q t. cond (same q p && eqb t s) flows (l .flows q t);
 }
 
 -- what an accepted call enters
-unfoldable pub asked : Ledger → ℕ → Ask → Ledger
+unfoldable pub asked : Ledger → Product → ℕ → Ask → Ledger
 -- "the session is there, without flows"
-asked l s Open = withFlows l s []
-asked l s (Conflicting d) = l
+asked l p s Open = withFlows l p s []
+asked l p s (Conflicting d) = l
 -- "the session gets a last flow"
-asked l s (Add d m) = withFlows l s (l .flows s ++ (newFlow l s d m ∷ []))
-asked l s (Show f) = l
+asked l p s (Add d m) = withFlows l p s (l .flows p s ++ (newFlow l p s d m ∷ []))
+asked l p s (Show f) = l
 
 unfoldable pub taken : Ledger → Call → Ledger
 taken l (Table c) = renewed (entered l c) (due l c)
-taken l (Session s a) = asked l s a
-taken l (Read u s f d) = l
+taken l (Session p s a) = asked l p s a
+taken l (Read p u s f d) = l
 taken l Unreadable = l
 
 -- "A refused call, a query or a read: it stays as it is."

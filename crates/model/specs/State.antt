@@ -13,12 +13,28 @@ use Rattle.tables.specs.Tables.{fresh as emptyTables}
 use Rattle.model.specs.declared.Directory.{Directory}
 use Rattle.model.specs.declared.Sessions.{Sessions}
 use Rattle.model.specs.declared.Engine.{Engine}
+use Rattle.model.specs.declared.calls.Product.{Product}
+use Rattle.model.specs.declared.calls.Product.the-variants.{Server, TermBank}
 use Rattle.model.specs.Limits.{sessionCount, flowCount}
 
--- ---- how many places there are for flows in all sessions, and for role sets in all their constraints
+-- ---- the sessions of both products
 
+-- how many there are
+abbrev pub allSessions : ℕ
+allSessions = 2 * sessionCount
+
+-- the number among them of a product's first one
+unfoldable pub firstOf : Product → ℕ
+firstOf Server = 0
+firstOf TermBank = sessionCount
+
+-- the number among them of session s of product p, which is past them all where s is above its limit
+unfoldable pub sessionAt : Product → ℕ → ℕ
+sessionAt p s = cond (ltb s sessionCount) (firstOf p + s) allSessions
+
+-- how many places there are for flows in all sessions, and for role sets in all their constraints
 abbrev pub placeCount : ℕ
-placeCount = sessionCount * flowCount
+placeCount = allSessions * flowCount
 
 abbrev pub roleSetCount : ℕ
 roleSetCount = placeCount * flowCount
@@ -43,7 +59,7 @@ unfoldable pub filled : ℕ → (ℕ → ℕ) → ℕ → List ℕ → List ℕ
 filled at p zero l = l
 filled at p (suc n) l = set (filled at p n l) (at + n) (p n)
 
--- ---- flows
+-- ---- flows; a session has its number among all
 
 -- where flow f of session s stands in the arrays of flows
 unfoldable pub place : ℕ → ℕ → ℕ
@@ -53,9 +69,9 @@ place s f = s * flowCount + f
 unfoldable pub setPlace : ℕ → ℕ → ℕ → ℕ
 setPlace s f g = place s f * flowCount + g
 
--- "some flow has been added in any session"
+-- "some flow has been added in any session", and by K1 of "either product"
 unfoldable pub anyFlow : List ℕ → Bool
-anyFlow counts = some sessionCount (λ s. ltb 0 (getD counts s 0))
+anyFlow counts = some allSessions (λ s. ltb 0 (getD counts s 0))
 
 -- the reach of flow g of session s, with a new flow counted in as the next one: n flows are there, and `new` is the new one's reach; past it nothing
 unfoldable pub reachWith : List ℕ → ℕ → ℕ → ℕ → ℕ → ℕ
@@ -106,5 +122,5 @@ newVersion D named = directoryOf (D .tables) (given named (D .version + 1) userC
 unfoldable pub fresh : Engine
 fresh = record {
   directory = directoryOf emptyTables (replicate userCount 0) 0;
-  sessions = sessionsOf 0 (replicate sessionCount 0) (replicate placeCount 0) (replicate placeCount 0) (replicate placeCount 0) (replicate placeCount 0) (replicate roleSetCount 0);
+  sessions = sessionsOf 0 (replicate allSessions 0) (replicate placeCount 0) (replicate placeCount 0) (replicate placeCount 0) (replicate placeCount 0) (replicate roleSetCount 0);
 }

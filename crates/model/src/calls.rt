@@ -10,6 +10,12 @@ pub enum Change {
     Forward { from: usize, to: usize },
 }
 
+// The products on one directory. Each has sessions of its own.
+pub enum Product {
+    Server,
+    TermBank,
+}
+
 // What is asked of a session.
 pub enum Ask {
     Open,
@@ -22,10 +28,12 @@ pub enum Ask {
 pub enum Call {
     Table(Change),
     Session {
+        product: Product,
         session: usize,
         ask: Ask,
     },
     Read {
+        product: Product,
         user: usize,
         session: usize,
         flow: usize,
@@ -72,7 +80,7 @@ pub enum Answer {
     },
     // A read was granted.
     Granted,
-    // The constraint of this flow, at its place in the engine's arrays, is shown.
+    // The constraint of this flow is shown; the session has its number among those of both products.
     Constraint {
         session: usize,
         flow: usize,

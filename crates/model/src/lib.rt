@@ -6,6 +6,7 @@ pub use calls::Answer;
 pub use calls::Ask;
 pub use calls::Call;
 pub use calls::Change;
+pub use calls::Product;
 pub use calls::Refusal;
 pub use calls::Verdict;
 use tables::Tables;
@@ -22,13 +23,14 @@ pub struct Directory {
     pub version: Version,
 }
 
-// What was asked to be kept apart. Flow f of session s has place s * FLOWS + f, and the role set of
-// its constraint for flow g place (s * FLOWS + f) * FLOWS + g. What is not in use is zero.
+// What was asked to be kept apart. The sessions of both products have their numbers here: first the
+// server's, then the term bank's. Flow f of session number s has place s * FLOWS + f, and the role set
+// of its constraint for flow g place (s * FLOWS + f) * FLOWS + g. What is not in use is zero.
 pub struct Sessions {
     // The set of the open sessions.
     pub opened: u64,
     // Number s: how many flows session s has.
-    pub counts: [usize; Engine::SESSIONS],
+    pub counts: [usize; Engine::ALL_SESSIONS],
     pub roots: [usize; Engine::PLACES],
     pub reaches: [u64; Engine::PLACES],
     // The constraints: versions, deny sets, role sets.
@@ -69,11 +71,15 @@ impl Engine {
 
     pub const DATABASES: usize = Tables::DATABASES;
 
+    pub const PRODUCTS: usize = 2;
+    // Sessions of each product, and of all.
     pub const SESSIONS: usize = 16;
+
+    pub const ALL_SESSIONS: usize = Self::PRODUCTS * Self::SESSIONS;
 
     pub const FLOWS: usize = 8;
     // Places for flows, in all sessions.
-    pub const PLACES: usize = Self::SESSIONS * Self::FLOWS;
+    pub const PLACES: usize = Self::ALL_SESSIONS * Self::FLOWS;
     // Places for role sets, in all constraints.
     pub const ROLE_SETS: usize = Self::PLACES * Self::FLOWS;
 

@@ -16,16 +16,18 @@ use Rattle.model.specs.declared.Engine.{Engine}
 use Rattle.model.specs.declared.calls.Refusal.{Refusal}
 use Rattle.model.specs.declared.calls.Verdict.{Verdict}
 use Rattle.model.specs.declared.calls.Verdict.the-variants.{Granted as Verdict·Granted, Refused as Verdict·Refused}
+use Rattle.model.specs.declared.calls.Product.{Product}
 use Rattle.model.specs.declared.calls.Ask.the-variants.{Open, Conflicting, Add, Show}
 use Rattle.model.specs.declared.calls.Call.{Call}
 use Rattle.model.specs.declared.calls.Call.the-variants.{Table, Session, Read, Unreadable}
 use Rattle.model.specs.declared.calls.Answer.{Answer}
 use Rattle.model.specs.declared.calls.Answer.the-variants.{Version, Roles, Flow, Granted, Constraint as Answer·Constraint, Refused}
-use Rattle.model.specs.State.{fresh}
+use Rattle.model.specs.State.{allSessions, sessionAt, fresh}
 use Rattle.model.specs.Limits.{sessionCount, flowCount}
 use Rattle.model.specs.Calls.{returned, flowsIn, verdict, after, answer}
 use Rattle.model.specs.Refusals.{rows, askRows}
 use Rattle.model.specs.Demands.{seen, Demand1}
+use Rattle.model.proofs.Laws.{session-within}
 use Rattle.model.proofs.Chains.{not-met}
 use Rattle.model.proofs.SeenRows.{length-flows}
 use Rattle.model.proofs.Seen.{demand1}
@@ -39,7 +41,7 @@ use Rattle.protocol.specs.Run.{Split, withByte, split, lastCall, callsOf
 -- no kind has so many fields
 rest-short : (kind : ℕ) → restDigits kind ≤ 20
 unfolding restDigits
-rest-short kind = pick (eqb kind 6) 2 _ (omega arith) (pick (eqb kind 8) 20 _ (omega arith) (pick (eqb kind 9) 8 _ (omega arith) (pick (leb 1 kind && leb kind 10) 4 0 (omega arith) (omega arith))))
+rest-short kind = pick (eqb kind 6 || eqb kind 11) 2 _ (omega arith) (pick (eqb kind 8 || eqb kind 13) 20 _ (omega arith) (pick (eqb kind 9 || eqb kind 14) 8 _ (omega arith) (pick (leb 1 kind && leb kind 15) 4 0 (omega arith) (omega arith))))
   where
     pick : (t : Bool) (a b : ℕ) → a ≤ 20 → b ≤ 20 → cond t a b ≤ 20
     pick true a b l m = l
@@ -362,25 +364,25 @@ Placed (Version v) = v ≡ v
 Placed (Roles m) = m ≡ m
 Placed (Flow n k v) = n ≡ n
 Placed Granted = Granted ≡ Granted
-Placed (Answer·Constraint s f) = (s < sessionCount) × (f < flowCount)
+Placed (Answer·Constraint s f) = (s < allSessions) × (f < flowCount)
 Placed (Refused why) = why ≡ why
 
 -- a flow that is shown is there
-pub show-within : (e : Engine) (s f : ℕ) → verdict e (Session s (Show f)) ≡ Verdict·Granted → (s < sessionCount) × (f < flowCount) × (f < flowsIn (e .sessions) s)
+pub show-within : (e : Engine) (p : Product) (s f : ℕ) → verdict e (Session p s (Show f)) ≡ Verdict·Granted → (sessionAt p s < allSessions) × (f < flowCount) × (f < flowsIn (e .sessions) (sessionAt p s))
 unfolding returned rows askRows
-show-within e s f h =
-    let p = not-met 1 (leb sessionCount s || leb flowCount f) _ (sym (demand1 e (Session s (Show f)) .number) ∙ ap returned h) in
-    let q = or-neither (leb sessionCount s) (leb flowCount f) (p .0) in
-    let r = not-met 9 (leb (length (seen e .flows s)) f) _ (not-met 5 (not (seen e .opened s)) _ (p .1) .1) in
-    (leb-false sessionCount s (q .0), leb-false flowCount f (q .1), rw (length-flows e s) at (leb-false (length (seen e .flows s)) f (r .0)))
+show-within e p s f h =
+    let a = not-met 1 (leb sessionCount s || leb flowCount f) _ (sym (demand1 e (Session p s (Show f)) .number) ∙ ap returned h) in
+    let b = or-neither (leb sessionCount s) (leb flowCount f) (a .0) in
+    let c = not-met 9 (leb (length (seen e .flows p s)) f) _ (not-met 5 (not (seen e .opened p s)) _ (a .1) .1) in
+    (session-within p s (leb-false sessionCount s (b .0)), leb-false flowCount f (b .1), rw (length-flows e p s) at (leb-false (length (seen e .flows p s)) f (c .0)))
 
 granted-placed : (e : Engine) (c : Call) → verdict e c ≡ Verdict·Granted → Placed (answer e c)
 granted-placed e (Table c) h = rw (demand1 e (Table c) .told h) refl
-granted-placed e (Session s Open) h = rw (demand1 e (Session s Open) .told h) refl
-granted-placed e (Session s (Conflicting root)) h = rw (demand1 e (Session s (Conflicting root)) .told h .1) refl
-granted-placed e (Session s (Add root chosen)) h = rw (demand1 e (Session s (Add root chosen)) .told h) refl
-granted-placed e (Session s (Show f)) h = rw (demand1 e (Session s (Show f)) .told h) (let w = show-within e s f h in (w .0, w .1))
-granted-placed e (Read u s f d) h = rw (demand1 e (Read u s f d) .told h) refl
+granted-placed e (Session p s Open) h = rw (demand1 e (Session p s Open) .told h) refl
+granted-placed e (Session p s (Conflicting root)) h = rw (demand1 e (Session p s (Conflicting root)) .told h .1) refl
+granted-placed e (Session p s (Add root chosen)) h = rw (demand1 e (Session p s (Add root chosen)) .told h) refl
+granted-placed e (Session p s (Show f)) h = rw (demand1 e (Session p s (Show f)) .told h) (let w = show-within e p s f h in (w .0, w .1))
+granted-placed e (Read p u s f d) h = rw (demand1 e (Read p u s f d) .told h) refl
 granted-placed e Unreadable h = absurd (demand1 e Unreadable .told h)
 
 pub placed : (e : Engine) (c : Call) → Placed (answer e c)

@@ -11,10 +11,11 @@ use lib.Arith.{digits-lt, digits-div, digits-mod}
 use lib.Dec.{eqb, leb, ltb}
 use lib.ListN.{length, getD, take, drop, length-append, length-drop, take-append-drop}
 use lib.Seq.{take-all, take-at, drop-at, take-suc, drop-drop}
-use borrow.Author.Tests.{eqb-true, lt-ltb, le-ltb, ltb-true, leb-true, eq-eqb}
+use borrow.Author.Tests.{eqb-true, lt-ltb, le-ltb, ltb-true, leb-true}
 use Rattle.sets.specs.Sets.{has, setOf, some}
 use Rattle.sets.proofs.Laws.{true-or-false, and-both, and-true, some-at, members}
 use Rattle.model.specs.declared.calls.Change.the-variants.{Assign, Withdraw, Permit, Revoke, Forward}
+use Rattle.model.specs.declared.calls.Product.the-variants.{Server, TermBank}
 use Rattle.model.specs.declared.calls.Ask.the-variants.{Open, Conflicting, Add, Show}
 use Rattle.model.specs.declared.calls.Call.{Call}
 use Rattle.model.specs.declared.calls.Call.the-variants.{Table, Session, Read, Unreadable}
@@ -206,12 +207,14 @@ read-quad k a b c d C l m n o p f =
     rest : List ℕ
     rest = hex 2 a ++ r₁
 
-read-add : (s d m : ℕ) → s < 256 → d < 256 → m < 2 ^ 64 → callOf (inDigits 2 8 ++ (inDigits 2 s ++ (inDigits 2 d ++ M (has m)))) ≡ Session s (Add d m)
-unfolding M frame restDigits called calledBy
-read-add s d m l n o =
+read-add : (k s d m : ℕ) (C : ℕ → ℕ → ℕ → Call) → k < 256 → s < 256 → d < 256 → m < 2 ^ 64
+    → ((rest : List ℕ) → length rest ≡ 20 → frame k rest ≡ C (field rest 0) (field rest 1) (number (drop 4 rest)))
+    → callOf (inDigits 2 k ++ (inDigits 2 s ++ (inDigits 2 d ++ M (has m)))) ≡ C s d m
+unfolding M
+read-add k s d m C q l n o f =
     simp (digits-hex, bits-set 64 (has m), members 64 m o)
-    (read-kind 8 rest (omega arith) (all-append (hex 2 s) r₁ (hex-all 2 s) (all-append (hex 2 d) (hex 16 m) (hex-all 2 d) (hex-all 16 m)))
-    ∙ ap (λ (b : Bool). cond b (Session (field rest 0) (Add (field rest 1) (number (drop 4 rest)))) Unreadable) (eq-eqb (length rest) 20 (simp (length-append, hex-length)))
+    (read-kind k rest q (all-append (hex 2 s) r₁ (hex-all 2 s) (all-append (hex 2 d) (hex 16 m) (hex-all 2 d) (hex-all 16 m)))
+    ∙ f rest (simp (length-append, hex-length))
     ∙ rw (
       first-field s r₁ l,
       next-field s r₁ 0,
@@ -235,11 +238,16 @@ read-spelled (Table (Withdraw u r)) h = read-pair 2 u r (λ x y. Table (Withdraw
 read-spelled (Table (Permit r d)) h = read-pair 3 r d (λ x y. Table (Permit x y)) (omega arith) (h .0) (h .1) (λ rest e. rw e)
 read-spelled (Table (Revoke r d)) h = read-pair 4 r d (λ x y. Table (Revoke x y)) (omega arith) (h .0) (h .1) (λ rest e. rw e)
 read-spelled (Table (Forward d e)) h = read-pair 5 d e (λ x y. Table (Forward x y)) (omega arith) (h .0) (h .1) (λ rest q. rw q)
-read-spelled (Session s Open) h = read-one 6 s (λ x. Session x Open) (omega arith) h (λ rest e. rw e)
-read-spelled (Session s (Conflicting d)) h = read-pair 7 s d (λ x y. Session x (Conflicting y)) (omega arith) (h .0) (h .1) (λ rest e. rw e)
-read-spelled (Session s (Add d m)) h = read-add s d m (h .0) (h .1) (h .2)
-read-spelled (Session s (Show f)) h = read-pair 10 s f (λ x y. Session x (Show y)) (omega arith) (h .0) (h .1) (λ rest e. rw e)
-read-spelled (Read u s f d) h = read-quad 9 u s f d Read (omega arith) (h .0) (h .1) (h .2) (h .3) (λ rest e. rw e)
+read-spelled (Session Server s Open) h = read-one 6 s (λ x. Session Server x Open) (omega arith) h (λ rest e. rw e)
+read-spelled (Session Server s (Conflicting d)) h = read-pair 7 s d (λ x y. Session Server x (Conflicting y)) (omega arith) (h .0) (h .1) (λ rest e. rw e)
+read-spelled (Session Server s (Add d m)) h = read-add 8 s d m (λ x y z. Session Server x (Add y z)) (omega arith) (h .0) (h .1) (h .2) (λ rest e. rw e)
+read-spelled (Session Server s (Show f)) h = read-pair 10 s f (λ x y. Session Server x (Show y)) (omega arith) (h .0) (h .1) (λ rest e. rw e)
+read-spelled (Read Server u s f d) h = read-quad 9 u s f d (Read Server) (omega arith) (h .0) (h .1) (h .2) (h .3) (λ rest e. rw e)
+read-spelled (Session TermBank s Open) h = read-one 11 s (λ x. Session TermBank x Open) (omega arith) h (λ rest e. rw e)
+read-spelled (Session TermBank s (Conflicting d)) h = read-pair 12 s d (λ x y. Session TermBank x (Conflicting y)) (omega arith) (h .0) (h .1) (λ rest e. rw e)
+read-spelled (Session TermBank s (Add d m)) h = read-add 13 s d m (λ x y z. Session TermBank x (Add y z)) (omega arith) (h .0) (h .1) (h .2) (λ rest e. rw e)
+read-spelled (Session TermBank s (Show f)) h = read-pair 15 s f (λ x y. Session TermBank x (Show y)) (omega arith) (h .0) (h .1) (λ rest e. rw e)
+read-spelled (Read TermBank u s f d) h = read-quad 14 u s f d (Read TermBank) (omega arith) (h .0) (h .1) (h .2) (h .3) (λ rest e. rw e)
 read-spelled Unreadable h = absurd h
 
 -- ---- what is read as a call is its frame
@@ -331,25 +339,25 @@ module _ (line : List ℕ) (h : allDigits line ≡ true) (long : eqb (length (dr
       let f = pair-back (drop 2 line) (r .2) (r .1) in
       ((f .1, f .2), r .0 ∙ ap (λ (xs : List ℕ). inDigits 2 k ++ xs) (f .0 ∙ simp hex-digits))
 
-  quad-framed : eqb (number (take 2 line)) 9 ≡ true
-      → HasFrame (Read (field (drop 2 line) 0) (field (drop 2 line) 1) (field (drop 2 line) 2) (field (drop 2 line) 3))
-      × (line ≡ inDigits 2 9 ++ (inDigits 2 (field (drop 2 line) 0) ++ (inDigits 2 (field (drop 2 line) 1) ++ (inDigits 2 (field (drop 2 line) 2) ++ inDigits 2 (field (drop 2 line) 3)))))
-  unfolding tail restDigits
-  quad-framed t =
-      let r = of-kind 9 8 t refl (omega arith) in
+  quad-framed : (k : ℕ) → eqb (number (take 2 line)) k ≡ true → restDigits k ≡ 8
+      → ((field (drop 2 line) 0 < 256) × (field (drop 2 line) 1 < 256) × (field (drop 2 line) 2 < 256) × (field (drop 2 line) 3 < 256))
+      × (line ≡ inDigits 2 k ++ (inDigits 2 (field (drop 2 line) 0) ++ (inDigits 2 (field (drop 2 line) 1) ++ (inDigits 2 (field (drop 2 line) 2) ++ inDigits 2 (field (drop 2 line) 3)))))
+  unfolding tail
+  quad-framed k t q =
+      let r = of-kind k 8 t q (omega arith) in
       let f = quad-back (drop 2 line) (r .2) (r .1) in
-      ((f .1, f .2, f .3, f .4), r .0 ∙ ap (λ (xs : List ℕ). inDigits 2 9 ++ xs) (f .0 ∙ simp hex-digits))
+      ((f .1, f .2, f .3, f .4), r .0 ∙ ap (λ (xs : List ℕ). inDigits 2 k ++ xs) (f .0 ∙ simp hex-digits))
 
-  add-framed : eqb (number (take 2 line)) 8 ≡ true
-      → HasFrame (Session (field (drop 2 line) 0) (Add (field (drop 2 line) 1) (number (drop 4 (drop 2 line)))))
-      × (line ≡ inDigits 2 8 ++ (inDigits 2 (field (drop 2 line) 0) ++ (inDigits 2 (field (drop 2 line) 1) ++ inDigits 16 (bits 64 (has (number (drop 4 (drop 2 line))))))))
-  unfolding tail restDigits
-  add-framed t =
-      let r = of-kind 8 20 t refl (omega arith) in
+  add-framed : (k : ℕ) → eqb (number (take 2 line)) k ≡ true → restDigits k ≡ 20
+      → ((field (drop 2 line) 0 < 256) × (field (drop 2 line) 1 < 256) × (number (drop 4 (drop 2 line)) < 16 ^ 16))
+      × (line ≡ inDigits 2 k ++ (inDigits 2 (field (drop 2 line) 0) ++ (inDigits 2 (field (drop 2 line) 1) ++ inDigits 16 (bits 64 (has (number (drop 4 (drop 2 line))))))))
+  unfolding tail
+  add-framed k t q =
+      let r = of-kind k 20 t q (omega arith) in
       let f = add-back (drop 2 line) (r .2) (r .1) in
       let m = number (drop 4 (drop 2 line)) in (
         (f .1, f .2, f .3),
-        r .0 ∙ ap (λ (xs : List ℕ). inDigits 2 8 ++ xs) (f .0 ∙ simp (hex-digits, bits-set 64 (has m), members 64 m (f .3))),
+        r .0 ∙ ap (λ (xs : List ℕ). inDigits 2 k ++ xs) (f .0 ∙ simp (hex-digits, bits-set 64 (has m), members 64 m (f .3))),
       )
 
   framed-called : Framed line (called (number (take 2 line)) (drop 2 line))
@@ -362,9 +370,14 @@ module _ (line : List ℕ) (h : allDigits line ≡ true) (long : eqb (length (dr
       (pick (Framed line) _ _ _ (λ t. inr (pair-framed 5 t refl))
       (pick (Framed line) _ _ _ (λ t. inr (one-framed 6 t refl))
       (pick (Framed line) _ _ _ (λ t. inr (pair-framed 7 t refl))
-      (pick (Framed line) _ _ _ (λ t. inr (add-framed t))
-      (pick (Framed line) _ _ _ (λ t. inr (quad-framed t))
-      (pick (Framed line) _ _ _ (λ t. inr (pair-framed 10 t refl)) (inl refl))))))))))
+      (pick (Framed line) _ _ _ (λ t. inr (add-framed 8 t refl))
+      (pick (Framed line) _ _ _ (λ t. inr (quad-framed 9 t refl))
+      (pick (Framed line) _ _ _ (λ t. inr (pair-framed 10 t refl))
+      (pick (Framed line) _ _ _ (λ t. inr (one-framed 11 t refl))
+      (pick (Framed line) _ _ _ (λ t. inr (pair-framed 12 t refl))
+      (pick (Framed line) _ _ _ (λ t. inr (add-framed 13 t refl))
+      (pick (Framed line) _ _ _ (λ t. inr (quad-framed 14 t refl))
+      (pick (Framed line) _ _ _ (λ t. inr (pair-framed 15 t refl)) (inl refl)))))))))))))))
 
 framed-digits : (line : List ℕ) → allDigits line ≡ true → Framed line (frame (number (take 2 line)) (drop 2 line))
 unfolding frame

@@ -4,3 +4,4 @@ pub mod Digits
 pub mod Lines
 pub mod Run
 pub mod Demands
+pub mod Products

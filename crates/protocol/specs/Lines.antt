@@ -1,12 +1,13 @@
 -- What a line says, and how an answer is written (document 01, "Frames"). A line is the list of its bytes, without its line feed.
 -- Assumes nothing.
 use Prim.Native.Nat.{ℕ, zero, suc, _+_, _*_}
-use mathlib.Core.Bool.{Bool, true, false, cond, not, _&&_}
+use mathlib.Core.Bool.{Bool, true, false, cond, not, _&&_, _||_}
 use mathlib.Core.List.{List, [], _∷_, _++_}
 use lib.Dec.{eqb, leb}
 use lib.ListN.{length, getD, take, drop}
 use Rattle.model.specs.declared.Constraint.{Constraint}
 use Rattle.model.specs.declared.calls.Change.the-variants.{Assign, Withdraw, Permit, Revoke, Forward}
+use Rattle.model.specs.declared.calls.Product.the-variants.{Server, TermBank}
 use Rattle.model.specs.declared.calls.Ask.the-variants.{Open, Conflicting, Add, Show}
 use Rattle.model.specs.declared.calls.Call.{Call}
 use Rattle.model.specs.declared.calls.Call.the-variants.{Table, Session, Read, Unreadable}
@@ -30,10 +31,10 @@ fields n = fieldDigits * n
 -- how many digits stand after the kind; 0 after an unknown one
 unfoldable pub restDigits : ℕ → ℕ
 restDigits kind =
-    cond (eqb kind 0x06) (fields 1)
-    (cond (eqb kind 0x08) (fields 2 + setDigits)
-    (cond (eqb kind 0x09) (fields 4)
-    (cond (leb 0x01 kind && leb kind 0x0a) (fields 2) 0)))
+    cond (eqb kind 0x06 || eqb kind 0x0b) (fields 1)
+    (cond (eqb kind 0x08 || eqb kind 0x0d) (fields 2 + setDigits)
+    (cond (eqb kind 0x09 || eqb kind 0x0e) (fields 4)
+    (cond (leb 0x01 kind && leb kind 0x0f) (fields 2) 0)))
 
 -- the call of this kind with these fields, and with this role set where it has one
 unfoldable pub calledBy : ℕ → (ℕ → ℕ) → ℕ → Call
@@ -49,17 +50,27 @@ calledBy kind field set =
     -- 05 dd ee
     (cond (eqb kind 0x05) (Table (Forward (field 0) (field 1)))
     -- 06 ss
-    (cond (eqb kind 0x06) (Session (field 0) Open)
+    (cond (eqb kind 0x06) (Session Server (field 0) Open)
     -- 07 ss dd
-    (cond (eqb kind 0x07) (Session (field 0) (Conflicting (field 1)))
+    (cond (eqb kind 0x07) (Session Server (field 0) (Conflicting (field 1)))
     -- 08 ss dd M
-    (cond (eqb kind 0x08) (Session (field 0) (Add (field 1) set))
+    (cond (eqb kind 0x08) (Session Server (field 0) (Add (field 1) set))
     -- 09 uu ss ff dd
-    (cond (eqb kind 0x09) (Read (field 0) (field 1) (field 2) (field 3))
+    (cond (eqb kind 0x09) (Read Server (field 0) (field 1) (field 2) (field 3))
     -- 0a ss ff
-    (cond (eqb kind 0x0a) (Session (field 0) (Show (field 1)))
+    (cond (eqb kind 0x0a) (Session Server (field 0) (Show (field 1)))
+    -- 0b ss
+    (cond (eqb kind 0x0b) (Session TermBank (field 0) Open)
+    -- 0c ss dd
+    (cond (eqb kind 0x0c) (Session TermBank (field 0) (Conflicting (field 1)))
+    -- 0d ss dd M
+    (cond (eqb kind 0x0d) (Session TermBank (field 0) (Add (field 1) set))
+    -- 0e uu ss ff dd
+    (cond (eqb kind 0x0e) (Read TermBank (field 0) (field 1) (field 2) (field 3))
+    -- 0f ss ff
+    (cond (eqb kind 0x0f) (Session TermBank (field 0) (Show (field 1)))
     -- "unknown kind"
-    Unreadable)))))))))
+    Unreadable))))))))))))))
 
 -- the call of this kind whose fields are the rest of the line
 unfoldable pub called : ℕ → List ℕ → Call

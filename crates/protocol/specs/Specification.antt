@@ -1,4 +1,4 @@
--- What the program may write, for every input: document 01's "Frames", over the ledger of demand 3 and its rows.
+-- What the program may write, for every input: document 01's "Frames" with K1's, over the ledger of demand 3 and its rows.
 -- This text names nothing of the engine, of the decoder or of the encoder. `Exact` says that the program's output is the one it allows.
 -- Assumes nothing.
 use Prim.Native.Nat.{ℕ, zero, suc, _+_, _/_, _%_, _^_, _<_}
@@ -12,6 +12,8 @@ use Rattle.sets.specs.Sets.{has, some, count}
 use Rattle.tables.specs.Tables.{userCount, roleCount, databaseCount}
 use Rattle.model.specs.declared.calls.Change.{Change}
 use Rattle.model.specs.declared.calls.Change.the-variants.{Assign, Withdraw, Permit, Revoke, Forward}
+use Rattle.model.specs.declared.calls.Product.{Product}
+use Rattle.model.specs.declared.calls.Product.the-variants.{Server, TermBank}
 use Rattle.model.specs.declared.calls.Ask.the-variants.{Open, Conflicting, Add, Show}
 use Rattle.model.specs.declared.calls.Call.{Call}
 use Rattle.model.specs.declared.calls.Call.the-variants.{Table, Session, Read, Unreadable}
@@ -55,11 +57,17 @@ spelled (Table (Withdraw u r)) = two 0x02 ++ (two u ++ two r)
 spelled (Table (Permit r d)) = two 0x03 ++ (two r ++ two d)
 spelled (Table (Revoke r d)) = two 0x04 ++ (two r ++ two d)
 spelled (Table (Forward d e)) = two 0x05 ++ (two d ++ two e)
-spelled (Session s Open) = two 0x06 ++ two s
-spelled (Session s (Conflicting d)) = two 0x07 ++ (two s ++ two d)
-spelled (Session s (Add d m)) = two 0x08 ++ (two s ++ (two d ++ M (has m)))
-spelled (Read u s f d) = two 0x09 ++ (two u ++ (two s ++ (two f ++ two d)))
-spelled (Session s (Show f)) = two 0x0a ++ (two s ++ two f)
+spelled (Session Server s Open) = two 0x06 ++ two s
+spelled (Session Server s (Conflicting d)) = two 0x07 ++ (two s ++ two d)
+spelled (Session Server s (Add d m)) = two 0x08 ++ (two s ++ (two d ++ M (has m)))
+spelled (Read Server u s f d) = two 0x09 ++ (two u ++ (two s ++ (two f ++ two d)))
+spelled (Session Server s (Show f)) = two 0x0a ++ (two s ++ two f)
+-- "Kinds 0b to 0f do for the term bank what 06 to 0a do for the server, field by field" (K1)
+spelled (Session TermBank s Open) = two 0x0b ++ two s
+spelled (Session TermBank s (Conflicting d)) = two 0x0c ++ (two s ++ two d)
+spelled (Session TermBank s (Add d m)) = two 0x0d ++ (two s ++ (two d ++ M (has m)))
+spelled (Read TermBank u s f d) = two 0x0e ++ (two u ++ (two s ++ (two f ++ two d)))
+spelled (Session TermBank s (Show f)) = two 0x0f ++ (two s ++ two f)
 spelled Unreadable = []
 
 -- a number that two digits hold, and a set that sixteen hold
@@ -76,11 +84,11 @@ HasFrame (Table (Withdraw u r)) = Field u × Field r
 HasFrame (Table (Permit r d)) = Field r × Field d
 HasFrame (Table (Revoke r d)) = Field r × Field d
 HasFrame (Table (Forward d e)) = Field d × Field e
-HasFrame (Session s Open) = Field s
-HasFrame (Session s (Conflicting d)) = Field s × Field d
-HasFrame (Session s (Add d m)) = Field s × Field d × Set m
-HasFrame (Read u s f d) = Field u × Field s × Field f × Field d
-HasFrame (Session s (Show f)) = Field s × Field f
+HasFrame (Session p s Open) = Field s
+HasFrame (Session p s (Conflicting d)) = Field s × Field d
+HasFrame (Session p s (Add d m)) = Field s × Field d × Set m
+HasFrame (Read p u s f d) = Field u × Field s × Field f × Field d
+HasFrame (Session p s (Show f)) = Field s × Field f
 HasFrame Unreadable = ⊥
 
 -- ---- input as lines
@@ -109,8 +117,8 @@ pub data Input : List ℕ → List Call → Type 0 where
 
 pub record Book : Type 0 where
   pub ledger : Ledger
-  -- of session s and its flow f: role r is in the role set for flow g
-  pub sets : (s f g r : ℕ) → Bool
+  -- of product p's session s and its flow f: role r is in the role set for flow g
+  pub sets : (p : Product) (s f g r : ℕ) → Bool
 
 -- "Role o overlaps role r if some user holds both; .. Then r is a parent of o."
 unfoldable pub isParent : Ledger → ℕ → ℕ → Bool
@@ -121,9 +129,9 @@ unfoldable pub inRoleSet : Ledger → Flow → Flow → ℕ → Bool
 inRoleSet l new that r = some databaseCount (λ d. that .reach d && l .mayRead r d) && some roleCount (λ o. new .deny o && isParent l r o)
 
 -- a flow that is there now and was not before gets its role sets by the ledger now, whose tables are those of the addition; "older constraints stay"
-unfoldable pub setsNow : Book → Ledger → (s f g r : ℕ) → Bool
-setsNow b now s f g =
-    cond (not (ltb f (length (b .ledger .flows s))) && ltb f (length (now .flows s))) (inRoleSet now (flowOf now s f) (flowOf now s g)) (b .sets s f g)
+unfoldable pub setsNow : Book → Ledger → (p : Product) (s f g r : ℕ) → Bool
+setsNow b now p s f g =
+    cond (not (ltb f (length (b .ledger .flows p s))) && ltb f (length (now .flows p s))) (inRoleSet now (flowOf now p s f) (flowOf now p s g)) (b .sets p s f g)
 
 -- after a call
 unfoldable pub next : Book → Call → Book
@@ -131,7 +139,7 @@ next b c = record { ledger = ledgerStep (b .ledger) c; sets = setsNow b (ledgerS
 
 -- before the first call there is no flow, so there are no role sets
 unfoldable pub blank : Book
-blank = record { ledger = start; sets = λ s f g r. false }
+blank = record { ledger = start; sets = λ p s f g r. false }
 
 -- ---- answers
 
@@ -144,15 +152,15 @@ setsOf (suc n) sets = setsOf n sets ++ M (sets n)
 unfoldable pub told : Book → Call → List ℕ
 -- "for 01–06 the system version, four digits"
 told b (Table c) = version (taken (b .ledger) (Table c) .system)
-told b (Session s Open) = version (taken (b .ledger) (Session s Open) .system)
+told b (Session p s Open) = version (taken (b .ledger) (Session p s Open) .system)
 -- "for 07 the role set": the conflicting roles "with a flow of root dd counted in but not added"
-told b (Session s (Conflicting d)) = M (isConflicting (b .ledger) s (newFlow (b .ledger) s d 0))
+told b (Session p s (Conflicting d)) = M (isConflicting (b .ledger) p s (newFlow (b .ledger) p s d 0))
 -- "for 08 flow number, count of databases in the reach (1 to 64) in two digits each, version"
-told b (Session s (Add d m)) = two (length (b .ledger .flows s)) ++ (two (count databaseCount (reachOf (b .ledger) d)) ++ version (b .ledger .system))
+told b (Session p s (Add d m)) = two (length (b .ledger .flows p s)) ++ (two (count databaseCount (reachOf (b .ledger) d)) ++ version (b .ledger .system))
 -- "for 09 nothing"
-told b (Read u s f d) = []
+told b (Read p u s f d) = []
 -- "for 0a version, deny set, then the role sets from flow 0 on"
-told b (Session s (Show f)) = version (flowOf (b .ledger) s f .version) ++ (M (flowOf (b .ledger) s f .deny) ++ setsOf (suc f) (b .sets s f))
+told b (Session p s (Show f)) = version (flowOf (b .ledger) p s f .version) ++ (M (flowOf (b .ledger) p s f .deny) ++ setsOf (suc f) (b .sets p s f))
 told b Unreadable = []
 
 -- "Each line gets one answer line, ended by a line feed: two hexadecimal digits (00 accepted, else the number refused), and if accepted: .."

@@ -1,4 +1,4 @@
-// A read: checked and answered.
+// A read: checked and answered. Its session has here its number among those of both products.
 use model::Engine;
 use model::Refusal;
 use model::Verdict;
@@ -61,7 +61,7 @@ pub fn number<'a>(
     readers: &'a [u64; Engine::DATABASES],
     users: &'a [Version; Engine::USERS],
     opened: u64,
-    counts: &'a [usize; Engine::SESSIONS],
+    counts: &'a [usize; Engine::ALL_SESSIONS],
     reaches: &'a [u64; Engine::PLACES],
     versions: &'a [Version; Engine::PLACES],
     denies: &'a [u64; Engine::PLACES],
@@ -79,7 +79,7 @@ pub fn number<'a>(
     if Engine::DATABASES <= d {
         return 2;
     }
-    if Engine::SESSIONS <= s {
+    if Engine::ALL_SESSIONS <= s {
         return 2;
     }
     if Engine::FLOWS <= f {
@@ -130,7 +130,7 @@ pub fn read<'a>(
     readers: &'a [u64; Engine::DATABASES],
     users: &'a [Version; Engine::USERS],
     opened: u64,
-    counts: &'a [usize; Engine::SESSIONS],
+    counts: &'a [usize; Engine::ALL_SESSIONS],
     reaches: &'a [u64; Engine::PLACES],
     versions: &'a [Version; Engine::PLACES],
     denies: &'a [u64; Engine::PLACES],

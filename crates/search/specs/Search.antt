@@ -8,13 +8,13 @@ use lib.ListN.{getD, replicate}
 use Rattle.sets.specs.Sets.{setOf, some, count, meeting}
 use Rattle.rows.specs.Rows.{there}
 use Rattle.tables.specs.Tables.{userCount, roleCount, databaseCount, readersOf}
-use Rattle.model.specs.Limits.{sessionCount, flowCount}
-use Rattle.model.specs.State.{filled, reachWith}
+use Rattle.model.specs.Limits.{flowCount}
+use Rattle.model.specs.State.{allSessions, filled, reachWith}
 
--- the roles that may read each flow of session s, in place g those of flow g; nobody above the last session
+-- the roles that may read each flow of session s, in place g those of flow g; nobody above the last session. s is a number among the sessions of both products
 unfoldable pub readersByFlow : List ℕ → List ℕ → ℕ → ℕ → ℕ → List ℕ
 readersByFlow readers reaches s n new =
-    cond (leb sessionCount s) (replicate flowCount 0) (filled 0 (λ g. readersOf roleCount databaseCount readers (reachWith reaches s n new g)) flowCount (replicate flowCount 0))
+    cond (leb allSessions s) (replicate flowCount 0) (filled 0 (λ g. readersOf roleCount databaseCount readers (reachWith reaches s n new g)) flowCount (replicate flowCount 0))
 
 -- the roles of the users whose roles meet at least two of the first n sets
 unfoldable pub conflictsOf : List ℕ → List ℕ → ℕ → ℕ

@@ -1,19 +1,20 @@
 // The search for conflicting roles, which a query answers and an addition looks at.
 //
-// Every public function answers for any numbers: above its limit nothing is there.
+// Every public function answers for any numbers: above its limit nothing is there. A session has here
+// its number among those of both products.
 use model::Engine;
 use tables::lent;
 ghost use mathlib.Core.Path.{_≡_};
 ghost use Prim.Native.Nat.{_<_};
 ghost use Rattle.tables.specs.Tables.{roleCount};
-ghost use Rattle.model.specs.Limits.{sessionCount, flowCount};
-ghost use Rattle.model.specs.State.{reachWith, outside};
+ghost use Rattle.model.specs.Limits.{flowCount};
+ghost use Rattle.model.specs.State.{allSessions, reachWith, outside};
 ghost use Rattle.search.specs.Search.{readersByFlow, conflictsOf};
 
 // The reach of flow g of session s, which has n flows, with a new one counted in as the next one;
 // empty where there is no such flow.
 fn reach_with(reaches: &[u64; Engine::PLACES], s: usize, n: usize, new: u64, g: usize) -> u64
-    requires { ⌜ s < sessionCount ⌝ }
+    requires { ⌜ s < allSessions ⌝ }
     requires { ⌜ g < flowCount ⌝ }
     ensures { λ r. ⌜ r ≡ reachWith (now (reaches .entry)) s n new g ⌝ }
 {
@@ -39,7 +40,7 @@ pub fn readers_by_flow<'a>(
     ensures { λ r. ⌜ r ≡ readersByFlow (now (readers .entry)) (now (reaches .entry)) s n new ⌝ }
 {
     let mut may = [0u64; Engine::FLOWS];
-    if Engine::SESSIONS <= s {
+    if Engine::ALL_SESSIONS <= s {
         return may;
     }
     let mut g = 0usize;

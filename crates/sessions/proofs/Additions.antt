@@ -16,15 +16,15 @@ use Rattle.rows.specs.Rows.{there}
 use Rattle.rows.specs.Reach.{reach}
 use Rattle.tables.specs.Tables.{readersOf, parentsOf, userCount, roleCount, databaseCount}
 use Rattle.tables.proofs.Laws.{meets-readers}
-use Rattle.model.specs.Limits.{sessionCount, flowCount}
-use Rattle.model.specs.State.{tablesOf, directoryOf, sessionsOf, place, setPlace, filled, reachWith, conflicts, outside, denyBefore, roleSet}
+use Rattle.model.specs.Limits.{flowCount}
+use Rattle.model.specs.State.{allSessions, tablesOf, directoryOf, sessionsOf, place, setPlace, filled, reachWith, conflicts, outside, denyBefore, roleSet}
 use Rattle.model.specs.declared.calls.Answer.the-variants.{Flow}
 use Rattle.model.specs.Calls.{done, conflictsIn, withFlow, add}
 use Rattle.search.specs.Search.{readersByFlow, conflictsOf}
 use Rattle.sessions.specs.RoleSets.{setsPut}
 use Rattle.model.proofs.Laws.{getD-filled, filled-cong}
 
-module _ (readers reaches : List ℕ) (s n new : ℕ) (here : leb sessionCount s ≡ false) where
+module _ (readers reaches : List ℕ) (s n new : ℕ) (here : leb allSessions s ≡ false) where
   pub readers-at : (g : ℕ) → g < flowCount → getD (readersByFlow readers reaches s n new) g 0 ≡ readersOf roleCount databaseCount readers (reachWith reaches s n new g)
   unfolding readersByFlow
   readers-at g l = rw here (rw (zero-add g) at (getD-filled 0 (λ i. readersOf roleCount databaseCount readers (reachWith reaches s n new i)) flowCount (replicate flowCount 0) g (omega arith) l))
@@ -44,7 +44,7 @@ module _ (readers reaches : List ℕ) (s n new : ℕ) (here : leb sessionCount s
   sets-by-flow roles forwards deny at l = filled-cong at _ _ flowCount l (λ g k. ap (λ (x : ℕ). shared roleCount x (parentsOf roleCount userCount roles deny)) (readers-at g k))
 
 -- what a call works out of the readers by flow
-module _ (roles readers forwards reaches may : List ℕ) (s n root new : ℕ) (here : leb sessionCount s ≡ false) (p : new ≡ reach databaseCount forwards root) (q : may ≡ readersByFlow readers reaches s n new) where
+module _ (roles readers forwards reaches may : List ℕ) (s n root new : ℕ) (here : leb allSessions s ≡ false) (p : new ≡ reach databaseCount forwards root) (q : may ≡ readersByFlow readers reaches s n new) where
   pub conflicts-found : (found : ℕ) → n < flowCount → found ≡ conflictsOf roles may (n + 1) → found ≡ conflicts roleCount userCount databaseCount (tablesOf roles readers forwards) (suc n) (reachWith reaches s n (reach databaseCount forwards root))
   conflicts-found found l e = e ∙ rw (q, p) (conflicts-by-flow readers reaches s n (reach databaseCount forwards root) here roles forwards l)
 
@@ -59,7 +59,7 @@ set-place s n = sym (add-zero ((s * flowCount + n) * flowCount))
 
 -- an accepted addition, from what each of its steps promises
 pub accepted : (roles readers forwards users counts roots reaches versions denies sets may sets′ : List ℕ) (version opened s root chosen new found old deny parents size : ℕ)
-    → leb sessionCount s ≡ false → leb databaseCount root ≡ false → leb (2 ^ roleCount) chosen ≡ false → not (has opened s) ≡ false → getD counts s 0 < flowCount
+    → leb allSessions s ≡ false → leb databaseCount root ≡ false → leb (2 ^ roleCount) chosen ≡ false → not (has opened s) ≡ false → getD counts s 0 < flowCount
     → new ≡ reach databaseCount forwards root → may ≡ readersByFlow readers reaches s (getD counts s 0) new
     → found ≡ conflictsOf roles may (getD counts s 0 + 1) → outside roleCount chosen found ≡ false
     → old ≡ denyBefore denies s (getD counts s 0) → deny ≡ joined roleCount old chosen

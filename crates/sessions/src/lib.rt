@@ -1,7 +1,7 @@
 // What is asked of sessions. Each call is checked, carried out in place on lent arrays and answered in
-// one function, which promises what the call's definition in `model` says.
+// one function, which promises what the call's definition in `model` says. A session has here its number
+// among those of both products.
 use model::Answer;
-use model::Ask;
 use model::Engine;
 use model::Refusal;
 use model::Version;
@@ -9,17 +9,17 @@ use tables::lent;
 ghost use mathlib.Core.Path.{_≡_};
 ghost use mathlib.Core.List.{List};
 ghost use Prim.Native.Nat.{ℕ, _<_, _*_};
-ghost use Rattle.model.specs.Limits.{sessionCount, flowCount};
-ghost use Rattle.model.specs.State.{placeCount};
+ghost use Rattle.model.specs.Limits.{flowCount};
+ghost use Rattle.model.specs.State.{allSessions, placeCount};
 ghost use Rattle.model.specs.State.{tablesOf, directoryOf, sessionsOf, denyBefore};
-ghost use Rattle.model.specs.Calls.{done, openSession, conflicting, add, show, ask};
+ghost use Rattle.model.specs.Calls.{done, openSession, conflicting, add, show};
 ghost use Rattle.sessions.specs.RoleSets.{setsPut};
 
 // 06: session s is opened.
 pub fn open_session(opened: &mut u64, version: Version, s: usize) -> Answer
     ensures { λ a. ⌜ ((counts roots reaches versions denies rolesets : List ℕ) → done a (sessionsOf (now (opened .exit)) counts roots reaches versions denies rolesets) ≡ openSession version (sessionsOf (now (opened .entry)) counts roots reaches versions denies rolesets) s) ⌝ }
 {
-    if Engine::SESSIONS <= s {
+    if Engine::ALL_SESSIONS <= s {
         return Answer::Refused(Refusal::AboveLimit);
     }
     if sets::contains(*opened, s) {
@@ -35,14 +35,14 @@ pub fn conflicting<'a>(
     readers: &'a [u64; Engine::DATABASES],
     forwards: &'a [u64; Engine::DATABASES],
     opened: u64,
-    counts: &'a [usize; Engine::SESSIONS],
+    counts: &'a [usize; Engine::ALL_SESSIONS],
     reaches: &'a [u64; Engine::PLACES],
     s: usize,
     root: usize,
 ) -> Answer
     ensures { λ a. ⌜ ((roots versions denies rolesets : List ℕ) → a ≡ conflicting (tablesOf (now (roles .entry)) (now (readers .entry)) (now (forwards .entry))) (sessionsOf opened (now (counts .entry)) roots (now (reaches .entry)) versions denies rolesets) s root) ⌝ }
 {
-    if Engine::SESSIONS <= s {
+    if Engine::ALL_SESSIONS <= s {
         return Answer::Refused(Refusal::AboveLimit);
     }
     if Engine::DATABASES <= root {
@@ -62,7 +62,7 @@ pub fn conflicting<'a>(
 
 // The deny set of the last of n flows of session s; of none it is empty.
 fn deny_before(denies: &[u64; Engine::PLACES], s: usize, n: usize) -> u64
-    requires { ⌜ s < sessionCount ⌝ }
+    requires { ⌜ s < allSessions ⌝ }
     requires { ⌜ n < flowCount ⌝ }
     ensures { λ r. ⌜ r ≡ denyBefore (now (denies .entry)) s n ⌝ }
 {
@@ -96,7 +96,7 @@ pub fn add<'a>(
     forwards: &'a [u64; Engine::DATABASES],
     version: Version,
     opened: u64,
-    counts: &mut [usize; Engine::SESSIONS],
+    counts: &mut [usize; Engine::ALL_SESSIONS],
     roots: &mut [usize; Engine::PLACES],
     reaches: &mut [u64; Engine::PLACES],
     versions: &mut [Version; Engine::PLACES],
@@ -108,7 +108,7 @@ pub fn add<'a>(
 ) -> Answer
     ensures { λ a. ⌜ ((users : List ℕ) → done a (sessionsOf opened (now (counts .exit)) (now (roots .exit)) (now (reaches .exit)) (now (versions .exit)) (now (denies .exit)) (now (rolesets .exit))) ≡ add (directoryOf (tablesOf (now (roles .entry)) (now (readers .entry)) (now (forwards .entry))) users version) (sessionsOf opened (now (counts .entry)) (now (roots .entry)) (now (reaches .entry)) (now (versions .entry)) (now (denies .entry)) (now (rolesets .entry))) s root chosen) ⌝ }
 {
-    if Engine::SESSIONS <= s {
+    if Engine::ALL_SESSIONS <= s {
         return Answer::Refused(Refusal::AboveLimit);
     }
     if Engine::DATABASES <= root {
@@ -143,10 +143,10 @@ pub fn add<'a>(
 }
 
 // 0a: the constraint of flow f of session s is shown, where there is one.
-pub fn show(opened: u64, counts: &[usize; Engine::SESSIONS], s: usize, f: usize) -> Answer
+pub fn show(opened: u64, counts: &[usize; Engine::ALL_SESSIONS], s: usize, f: usize) -> Answer
     ensures { λ a. ⌜ ((roots reaches versions denies rolesets : List ℕ) → a ≡ show (sessionsOf opened (now (counts .entry)) roots reaches versions denies rolesets) s f) ⌝ }
 {
-    if Engine::SESSIONS <= s {
+    if Engine::ALL_SESSIONS <= s {
         return Answer::Refused(Refusal::AboveLimit);
     }
     if Engine::FLOWS <= f {
@@ -161,50 +161,5 @@ pub fn show(opened: u64, counts: &[usize; Engine::SESSIONS], s: usize, f: usize)
     Answer::Constraint {
         session: s,
         flow: f,
-    }
-}
-
-// Anything that is asked of session s.
-pub fn ask<'a>(
-    roles: &'a [u64; Engine::USERS],
-    readers: &'a [u64; Engine::DATABASES],
-    forwards: &'a [u64; Engine::DATABASES],
-    version: Version,
-    opened: &mut u64,
-    counts: &mut [usize; Engine::SESSIONS],
-    roots: &mut [usize; Engine::PLACES],
-    reaches: &mut [u64; Engine::PLACES],
-    versions: &mut [Version; Engine::PLACES],
-    denies: &mut [u64; Engine::PLACES],
-    rolesets: &mut [u64; Engine::ROLE_SETS],
-    s: usize,
-    asked: Ask,
-) -> Answer
-    ensures { λ a. ⌜ ((users : List ℕ) → done a (sessionsOf (now (opened .exit)) (now (counts .exit)) (now (roots .exit)) (now (reaches .exit)) (now (versions .exit)) (now (denies .exit)) (now (rolesets .exit))) ≡ ask (directoryOf (tablesOf (now (roles .entry)) (now (readers .entry)) (now (forwards .entry))) users version) (sessionsOf (now (opened .entry)) (now (counts .entry)) (now (roots .entry)) (now (reaches .entry)) (now (versions .entry)) (now (denies .entry)) (now (rolesets .entry))) s asked) ⌝ }
-{
-    match asked {
-        Ask::Open => open_session(opened, version, s),
-        Ask::Conflicting { root } => {
-            conflicting(roles, readers, forwards, *opened, counts, reaches, s, root)
-        }
-        Ask::Add { root, chosen } => {
-            add(
-                roles,
-                readers,
-                forwards,
-                version,
-                *opened,
-                counts,
-                roots,
-                reaches,
-                versions,
-                denies,
-                rolesets,
-                s,
-                root,
-                chosen,
-            )
-        }
-        Ask::Show { flow } => show(*opened, counts, s, flow),
     }
 }

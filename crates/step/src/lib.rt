@@ -1,14 +1,32 @@
 // Any call, on the arrays of a whole engine. Each group of calls has a crate of its own: `directory`,
 // `sessions`, `reading`.
 use model::Answer;
+use model::Ask;
 use model::Call;
+use model::Change;
 use model::Engine;
+use model::Product;
 use model::Refusal;
 use model::Verdict;
 use model::Version;
 ghost use mathlib.Core.Path.{_≡_};
-ghost use Rattle.model.specs.State.{tablesOf, directoryOf, sessionsOf, engineOf};
-ghost use Rattle.model.specs.Calls.{done, answerOf, step};
+ghost use mathlib.Core.List.{List};
+ghost use Prim.Native.Nat.{ℕ};
+ghost use Rattle.model.specs.State.{sessionAt, tablesOf, directoryOf, sessionsOf, engineOf};
+ghost use Rattle.model.specs.Calls.{done, answerOf, change, ask, step};
+
+// The number of a product's session among those of both; past them all where it is above its limit.
+pub fn session_at(product: Product, session: usize) -> usize
+    ensures { λ r. ⌜ r ≡ sessionAt product session ⌝ }
+{
+    if Engine::SESSIONS <= session {
+        return Engine::ALL_SESSIONS;
+    }
+    match product {
+        Product::Server => session,
+        Product::TermBank => Engine::SESSIONS + session,
+    }
+}
 
 // The verdict on a read as an answer.
 fn answer_of(v: Verdict) -> Answer
@@ -20,6 +38,86 @@ fn answer_of(v: Verdict) -> Answer
     }
 }
 
+// Any change of the tables.
+fn change<'a>(
+    roles: &mut [u64; Engine::USERS],
+    readers: &mut [u64; Engine::DATABASES],
+    forwards: &mut [u64; Engine::DATABASES],
+    versions: &mut [Version; Engine::USERS],
+    version: &mut Version,
+    counts: &[usize; Engine::ALL_SESSIONS],
+    c: Change,
+) -> Answer
+    ensures { λ a. ⌜ done a (directoryOf (tablesOf (now (roles .exit)) (now (readers .exit)) (now (forwards .exit))) (now (versions .exit)) (now (version .exit))) ≡ change (directoryOf (tablesOf (now (roles .entry)) (now (readers .entry)) (now (forwards .entry))) (now (versions .entry)) (now (version .entry))) (now (counts .entry)) c ⌝ }
+{
+    match c {
+        Change::Assign { user, role } => directory::assign(roles, versions, version, user, role),
+        Change::Withdraw { user, role } => directory::withdraw(roles, *version, user, role),
+        Change::Permit { role, database } => directory::permit(
+            roles,
+            readers,
+            versions,
+            version,
+            role,
+            database,
+        ),
+        Change::Revoke { role, database } => directory::revoke(
+            roles,
+            readers,
+            versions,
+            version,
+            role,
+            database,
+        ),
+        Change::Forward { from, to } => directory::forward(forwards, *version, counts, from, to),
+    }
+}
+
+// Anything that is asked of session s, which has its number among those of both products.
+fn ask<'a>(
+    roles: &'a [u64; Engine::USERS],
+    readers: &'a [u64; Engine::DATABASES],
+    forwards: &'a [u64; Engine::DATABASES],
+    version: Version,
+    opened: &mut u64,
+    counts: &mut [usize; Engine::ALL_SESSIONS],
+    roots: &mut [usize; Engine::PLACES],
+    reaches: &mut [u64; Engine::PLACES],
+    versions: &mut [Version; Engine::PLACES],
+    denies: &mut [u64; Engine::PLACES],
+    rolesets: &mut [u64; Engine::ROLE_SETS],
+    s: usize,
+    asked: Ask,
+) -> Answer
+    ensures { λ a. ⌜ ((users : List ℕ) → done a (sessionsOf (now (opened .exit)) (now (counts .exit)) (now (roots .exit)) (now (reaches .exit)) (now (versions .exit)) (now (denies .exit)) (now (rolesets .exit))) ≡ ask (directoryOf (tablesOf (now (roles .entry)) (now (readers .entry)) (now (forwards .entry))) users version) (sessionsOf (now (opened .entry)) (now (counts .entry)) (now (roots .entry)) (now (reaches .entry)) (now (versions .entry)) (now (denies .entry)) (now (rolesets .entry))) s asked) ⌝ }
+{
+    match asked {
+        Ask::Open => sessions::open_session(opened, version, s),
+        Ask::Conflicting { root } => {
+            sessions::conflicting(roles, readers, forwards, *opened, counts, reaches, s, root)
+        }
+        Ask::Add { root, chosen } => {
+            sessions::add(
+                roles,
+                readers,
+                forwards,
+                version,
+                *opened,
+                counts,
+                roots,
+                reaches,
+                versions,
+                denies,
+                rolesets,
+                s,
+                root,
+                chosen,
+            )
+        }
+        Ask::Show { flow } => sessions::show(*opened, counts, s, flow),
+    }
+}
+
 // One call: checked, carried out and answered.
 pub fn step(
     roles: &mut [u64; Engine::USERS],
@@ -28,7 +126,7 @@ pub fn step(
     users: &mut [Version; Engine::USERS],
     version: &mut Version,
     opened: &mut u64,
-    counts: &mut [usize; Engine::SESSIONS],
+    counts: &mut [usize; Engine::ALL_SESSIONS],
     roots: &mut [usize; Engine::PLACES],
     reaches: &mut [u64; Engine::PLACES],
     versions: &mut [Version; Engine::PLACES],
@@ -39,9 +137,13 @@ pub fn step(
     ensures { λ a. ⌜ done a (engineOf (directoryOf (tablesOf (now (roles .exit)) (now (readers .exit)) (now (forwards .exit))) (now (users .exit)) (now (version .exit))) (sessionsOf (now (opened .exit)) (now (counts .exit)) (now (roots .exit)) (now (reaches .exit)) (now (versions .exit)) (now (denies .exit)) (now (rolesets .exit)))) ≡ step (engineOf (directoryOf (tablesOf (now (roles .entry)) (now (readers .entry)) (now (forwards .entry))) (now (users .entry)) (now (version .entry))) (sessionsOf (now (opened .entry)) (now (counts .entry)) (now (roots .entry)) (now (reaches .entry)) (now (versions .entry)) (now (denies .entry)) (now (rolesets .entry)))) call ⌝ }
 {
     match call {
-        Call::Table(c) => directory::change(roles, readers, forwards, users, version, counts, c),
-        Call::Session { session, ask } => {
-            sessions::ask(
+        Call::Table(c) => change(roles, readers, forwards, users, version, counts, c),
+        Call::Session {
+            product,
+            session,
+            ask: asked,
+        } => {
+            ask(
                 roles,
                 readers,
                 forwards,
@@ -53,11 +155,12 @@ pub fn step(
                 versions,
                 denies,
                 rolesets,
-                session,
-                ask,
+                session_at(product, session),
+                asked,
             )
         }
         Call::Read {
+            product,
             user,
             session,
             flow,
@@ -74,7 +177,7 @@ pub fn step(
                 denies,
                 rolesets,
                 user,
-                session,
+                session_at(product, session),
                 flow,
                 database,
             ))

@@ -3,8 +3,9 @@
 -- Assumes nothing.
 use Prim.Native.Nat.{ℕ}
 use mathlib.Core.Path.{_≡_}
-use mathlib.Core.Bool.{Bool, true, false}
+use mathlib.Core.Bool.{Bool, true, false, cond}
 use mathlib.Core.List.{List, [], _∷_, _++_}
+use lib.Dec.{eqb}
 use Rattle.protocol.specs.Run.{run}
 use Rattle.protocol.specs.Specification.{lineFeed, Output}
 
@@ -74,9 +75,25 @@ unfoldable pub outputOf : List Pair → List ℕ
 outputOf [] = []
 outputOf (p ∷ ps) = p .answer ++ (lineFeed ∷ outputOf ps)
 
+-- K1: the same frames with kinds 0b to 0f in place of 06 to 0a. The kinds differ in their second digit.
+unfoldable pub bankDigit : ℕ → ℕ
+bankDigit d = cond (eqb d 0x36) 0x62 (cond (eqb d 0x37) 0x63 (cond (eqb d 0x38) 0x64 (cond (eqb d 0x39) 0x65 (cond (eqb d 0x61) 0x66 d))))
+
+unfoldable pub ofTheBank : List ℕ → List ℕ
+ofTheBank [] = []
+ofTheBank (a ∷ []) = a ∷ []
+ofTheBank (a ∷ d ∷ rest) = a ∷ bankDigit d ∷ rest
+
+unfoldable pub bankInputOf : List Pair → List ℕ
+bankInputOf [] = []
+bankInputOf (p ∷ ps) = ofTheBank (p .frame) ++ (lineFeed ∷ bankInputOf ps)
+
 -- every line of the table, the starred ones among them, in one run from a fresh engine
 pub record Settled : Type 0 where
   -- the definitions that the contracts cite give these answers
   pub written : run (inputOf worked) ≡ outputOf worked
   -- and the specification allows them
   pub allowed : Output (inputOf worked) (outputOf worked)
+  -- of the term bank's sessions the same
+  pub bank-written : run (bankInputOf worked) ≡ outputOf worked
+  pub bank-allowed : Output (bankInputOf worked) (outputOf worked)

@@ -10,16 +10,15 @@ use borrow.Author.Tests.{lt-ltb, le-ltb}
 use Rattle.sets.specs.Sets.{some}
 use Rattle.sets.proofs.Laws.{some-none, some-at}
 use Rattle.tables.proofs.Laws.{none-yet}
-use Rattle.model.specs.Limits.{sessionCount}
-use Rattle.model.specs.State.{anyFlow}
+use Rattle.model.specs.State.{allSessions, anyFlow}
 use Rattle.directory.proofs.any_flow.Statement.{statement}
 use Rattle.directory.proofs.any_flow.Tie as tie
 
 abbrev Inv-loop : tie.InvT-loop
-Inv-loop counts s₀ s = (s ≤ sessionCount) × (some s (λ t. ltb 0 (getD counts t 0)) ≡ false)
+Inv-loop counts s₀ s = (s ≤ allSessions) × (some s (λ t. ltb 0 (getD counts t 0)) ≡ false)
 
 abbrev μ-loop : tie.MeasureT-loop
-μ-loop counts s₀ s = sessionCount - s
+μ-loop counts s₀ s = allSessions - s
 
 loop-holds : tie.Need-loop-holds Inv-loop μ-loop
 loop-holds c = (omega arith, some-none _)
@@ -29,7 +28,7 @@ unfolding anyFlow
 returns c =
     let at-loop = c .before .before .before in
     let flows = getD (at-loop .before .args .counts .now) (at-loop .loop .s) 0 in
-    sym (some-at sessionCount _ _ (omega arith) (lt-ltb 0 flows (omega arith)))
+    sym (some-at allSessions _ _ (omega arith) (lt-ltb 0 flows (omega arith)))
 
 loop-again : tie.Need-loop-again Inv-loop μ-loop
 loop-again c =
@@ -41,7 +40,7 @@ returns-2 : tie.Need-returns-2 Inv-loop μ-loop
 unfolding anyFlow
 returns-2 c =
     let at-loop = c .before in
-    let e : at-loop .loop .s ≡ sessionCount = omega arith in
+    let e : at-loop .loop .s ≡ allSessions = omega arith in
     sym (rw e at (at-loop .loop .inv .1))
 
 pub any-flow-spec : {M : Type 1} → statement M

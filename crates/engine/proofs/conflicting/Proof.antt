@@ -5,7 +5,9 @@ use Rattle.engine.proofs.conflicting.Tie as tie
 
 returns : tie.Need-returns
 unfolding answer step ask
-returns c = c .conflicting .ensures _ _ _ _
+returns c =
+    let at-number = c .before in
+    rw (← at-number .session-at .ensures) (c .conflicting .ensures _ _ _ _)
 
 pub conflicting-spec : {M : Type 1} → statement M
-conflicting-spec = tie.close (tie.spec (λ c κs. search needs) returns)
+conflicting-spec = tie.close (tie.spec (λ c κs. search needs) (λ c κs. search needs) returns)

@@ -7,7 +7,9 @@ use Rattle.engine.proofs.read.Tie as tie
 
 returns : tie.Need-returns
 unfolding verdict answer step
-returns c = c .read .ensures _ _ _ ∙ sym (verdict-answer _)
+returns c =
+    let at-number = c .before in
+    rw (← at-number .session-at .ensures) (c .read .ensures _ _ _ ∙ sym (verdict-answer _))
 
 pub read-spec : {M : Type 1} → statement M
-read-spec = tie.close (tie.spec (λ c κs. search needs) returns)
+read-spec = tie.close (tie.spec (λ c κs. search needs) (λ c κs. search needs) returns)

@@ -15,15 +15,17 @@ returns c =
 returns-2 : tie.Need-returns-2
 unfolding step
 returns-2 c =
-    let at-call2 = c .before .before .before .before .before .before .before .before .before .before .before .before .before in
-    rw (at-call2 .call2 .given .1) (of-sessions _ (c .ask .ensures _))
+    let at-number = c .before in
+    let at-call2 = at-number .before .before .before .before .before .before .before .before .before .before .before .before .before in
+    rw (at-call2 .call2 .given .1, ← at-number .session-at .ensures) (of-sessions _ (c .ask .ensures _))
 
 returns-3 : tie.Need-returns-3
 unfolding step
 returns-3 c =
     let at-read = c .before in
-    let at-call3 = at-read .before .before .before .before .before .before .before .before .before .before .before in
-    rw (at-call3 .call3 .given .1) (same-answer _ (c .answer-of .ensures ∙ ap answerOf (at-read .read .ensures _ _ _)))
+    let at-number = at-read .before in
+    let at-call3 = at-number .before .before .before .before .before .before .before .before .before .before .before in
+    rw (at-call3 .call3 .given .1, ← at-number .session-at2 .ensures) (same-answer _ (c .answer-of .ensures ∙ ap answerOf (at-read .read .ensures _ _ _)))
 
 returns-4 : tie.Need-returns-4
 unfolding step
@@ -38,7 +40,9 @@ step-spec =
     (λ c κs. search needs)
     (λ c. search needs)
     (λ c κs. search needs)
+    (λ c κs. search needs)
     (λ c. search needs)
+    (λ c κs. search needs)
     (λ c κs. search needs)
     (λ c κs. search needs)
     (λ c. search needs)

@@ -6,13 +6,6 @@ use Rattle.decoding.proofs.lines.next_line.Tie as tie
 returns : tie.Need-returns
 returns c = next-past _ _ _ _ (c .if1 .taken)
 
-add-t14 : tie.Need-add-t14
-add-t14 c =
-    let read = c .before in
-    let within = read .before .before in
-    let args = within .before .before .args in
-    omega (arith, next-within (args .high .now) (args .low .now) (args .s .now) (args .at) (within .if1 .left) (read .decode .ensures))
-
 returns-2 : tie.Need-returns-2
 returns-2 c = let read = c .before in next-frame _ _ _ _ (read .before .before .if1 .left) (read .decode .ensures) (c .if2 .taken)
 
@@ -31,7 +24,11 @@ next-line-spec =
     (λ c. omega arith)
     (λ c. omega arith)
     (λ c κs. tt)
-    add-t14
+    (λ c.
+    let read = c .before in
+    let within = read .before .before in
+    let args = within .before .before .args in
+    omega (arith, next-within (args .high .now) (args .low .now) (args .s .now) (args .at) (within .if1 .left) (read .decode .ensures)))
     returns-2
     (λ c κs. tt)
     returns-3)

@@ -8,9 +8,10 @@ use Rattle.frames.proofs.stream.answer_call.Tie as tie
 returns : tie.Need-returns
 returns c =
     let at-number = c .before .before .before .before in
-    let at-call = at-number .before .before .before .before .before .before .before .before .before .before .before in
+    let at-session = at-number .before .before .before .before .before .before .before .before .before .before in
+    let at-call = at-session .before .before in
     let start = at-call .before .before .before in
-    (read-after _ _ _ _ _ _ (at-call .call .given .1), read-wrote _ _ _ _ _ _ _ (at-call .call .given .1) (at-number .number .ensures _ _ _) (start .pre) (c .before .before .write-number .ensures))
+    (read-after _ _ _ _ _ _ _ (at-call .call .given .1), read-wrote _ _ _ _ _ _ _ _ _ (at-call .call .given .1) (at-session .session-at .ensures) (at-number .number .ensures _ _ _) (start .pre) (c .before .before .write-number .ensures))
 
 returns-2 : tie.Need-returns-2
 returns-2 c =
@@ -23,6 +24,7 @@ answer-call-spec =
     tie.close
     (tie.spec
     (λ c. search needs)
+    (λ c κs. search needs)
     (λ c κs. search needs)
     (λ c κs. search needs)
     (λ c. wrote-length (returns c .1))

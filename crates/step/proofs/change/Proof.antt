@@ -1,7 +1,7 @@
 use borrow.Author.Needs.{needs}
 use Rattle.model.specs.Calls.{change}
-use Rattle.directory.proofs.change.Statement.{statement}
-use Rattle.directory.proofs.change.Tie as tie
+use Rattle.step.proofs.change.Statement.{statement}
+use Rattle.step.proofs.change.Tie as tie
 
 returns : tie.Need-returns
 unfolding change

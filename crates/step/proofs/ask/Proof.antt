@@ -1,8 +1,8 @@
 use borrow.Author.Needs.{needs}
 use Rattle.model.specs.Calls.{ask}
 use Rattle.model.proofs.Chains.{same-answer}
-use Rattle.sessions.proofs.ask.Statement.{statement}
-use Rattle.sessions.proofs.ask.Tie as tie
+use Rattle.step.proofs.ask.Statement.{statement}
+use Rattle.step.proofs.ask.Tie as tie
 
 returns : tie.Need-returns
 unfolding ask
