@@ -27,10 +27,13 @@ use Rattle.protocol.specs.Digits.{digit, allDigits, numberFrom, number, glyph}
 use Rattle.protocol.specs.Lines.{lineFeed, field, restDigits, calledBy, called, frame, callOf}
 use Rattle.protocol.specs.Run.{feedAt}
 use Rattle.protocol.proofs.Laws.{feedAt-here, feedAt-later, feed-there}
+use Rattle.digits.specs.Tables.{highTable, lowTable}
+use Rattle.digits.proofs.Meaning.{Two, pair-read}
+use Rattle.kinds.proofs.Laws.{unknown}
 use Rattle.decoding.specs.declared.read.Frame.{Frame}
-use Rattle.decoding.specs.Fields.{digitTable, highTable, lowTable, pairAt, pairsRight, pairsNumber, endedBy}
+use Rattle.decoding.specs.Fields.{pairAt, pairsRight, pairsNumber, endedBy}
 use Rattle.decoding.specs.Frames.{isFrame, callBy, frameBy, nextBy, LineAt}
-use Rattle.decoding.proofs.Reading.{ended-right, ended-parts, begins, begun-parts, frame-by, by-kind, unknown}
+use Rattle.decoding.proofs.Reading.{ended-right, ended-parts, begins, begun-parts, frame-by, by-kind}
 
 -- ---- bytes
 
@@ -47,54 +50,7 @@ bytes-feed [] b (suc i) = record { fits = omega arith }
 bytes-feed (x ∷ s) b zero = b 0
 bytes-feed (x ∷ s) b (suc i) = bytes-feed s (λ j. b (suc j)) i
 
--- ---- the tables
-
--- entry k of the list is f (i + k): one test of a whole list
-unfoldable listed : (ℕ → ℕ) → ℕ → List ℕ → Bool
-listed f i [] = true
-listed f i (v ∷ vs) = eqb v (f i) && listed f (suc i) vs
-
-listed-at : (f : ℕ → ℕ) (i : ℕ) (vs : List ℕ) → listed f i vs ≡ true → (k : ℕ) → k < length vs → getD vs k 0 ≡ f (i + k)
-unfolding listed
-listed-at f i [] t k h = absurd (not-suc-le-zero h)
-listed-at f i (v ∷ vs) t zero h = rw (add-zero i) (eqb-true v (f i) (and-both (eqb v (f i)) _ t .0))
-listed-at f i (v ∷ vs) t (suc k) h = rw (add-suc i k, ← suc-add i k) (listed-at f (suc i) vs (and-both (eqb v (f i)) _ t .1) k (le-of-suc-le-suc h))
-
-entry-at : (f : ℕ → ℕ) (vs : List ℕ) → listed f 0 vs ≡ true → (k : ℕ) → k < length vs → getD vs k 0 ≡ f k
-entry-at f vs t k h = rw (zero-add k) at (listed-at f 0 vs t k h)
-
--- so many times the value of a digit
-abbrev counts : ℕ → ℕ → ℕ
-counts times b = cond (ltb (digit b) 16) (digit b * times) 256
-
-entries : (b : ℕ) → b < 256 → (getD highTable b 0 ≡ counts 16 b) × (getD lowTable b 0 ≡ counts 1 b)
-unfolding highTable lowTable digitTable glyph digit listed
-entries b h = (entry-at (counts 16) (digitTable 16 16) refl b h, entry-at (counts 1) (digitTable 1 16) refl b h)
-
 -- ---- two digits
-
--- a number below 256 exactly where both bytes are digits, and then their number
-record Two (bs : List ℕ) (v : ℕ) : Type 0 where
-  pub test : ltb v 256 ≡ allDigits bs
-  pub value : allDigits bs ≡ true → v ≡ number bs
-
-two-read : (a b h l : ℕ) → h ≡ counts 16 a → l ≡ counts 1 b → Two (a ∷ b ∷ []) (h + l)
-unfolding allDigits number numberFrom
-two-read a b h l high low = go (decLt (digit a) 16) (decLt (digit b) 16)
-  where
-    go : Dec (digit a < 16) → Dec (digit b < 16) → Two (a ∷ b ∷ []) (h + l)
-    go (yes p) (yes q) =
-        let f : h ≡ digit a * 16 = high ∙ rw (lt-ltb (digit a) 16 p) in
-        let g : l ≡ digit b * 1 = low ∙ rw (lt-ltb (digit b) 16 q) in
-        record { test = rw (lt-ltb (digit a) 16 p, lt-ltb (digit b) 16 q) (lt-ltb (h + l) 256 (omega arith)); value = λ w. omega arith }
-    go (yes p) (no q) =
-        let n : ltb (digit b) 16 ≡ false = le-ltb (digit b) 16 (omega (arith, q)) in
-        let g : l ≡ 256 = low ∙ rw n in
-        record { test = rw (lt-ltb (digit a) 16 p, n) (le-ltb (h + l) 256 (omega arith)); value = λ w. absurd (true≢false (sym w ∙ rw (lt-ltb (digit a) 16 p, n))) }
-    go (no p) q =
-        let n : ltb (digit a) 16 ≡ false = le-ltb (digit a) 16 (omega (arith, p)) in
-        let f : h ≡ 256 = high ∙ rw n in
-        record { test = rw n (le-ltb (h + l) 256 (omega arith)); value = λ w. absurd (true≢false (sym w ∙ rw n)) }
 
 take-two : (s : List ℕ) (at : ℕ) → at + 2 ≤ length s → take 2 (drop at s) ≡ getD s at 0 ∷ getD s (at + 1) 0 ∷ []
 take-two s at h =
@@ -107,7 +63,7 @@ pair-two : (s : List ℕ) (at : ℕ) → Bytes s → at + 2 ≤ length s → Two
 unfolding pairAt
 pair-two s at b h =
     rw (take-two s at h)
-    (two-read (getD s at 0) (getD s (at + 1) 0) _ _ (entries (getD s at 0) (omega (arith, b at)) .0) (entries (getD s (at + 1) 0) (omega (arith, b (at + 1))) .1))
+    (pair-read (getD s at 0) (getD s (at + 1) 0) (omega (arith, b at)) (omega (arith, b (at + 1))))
 
 -- ---- all digits, part by part
 

@@ -1,6 +1,6 @@
--- Laws of lines: where a line feed stands, a copy with a line feed, and the next line of an input.
+-- Laws of lines: a copy with a line feed, and the next line of an input.
 -- Assumes nothing.
-use Prim.Native.Nat.{ℕ, suc, _+_, _-_, _≤_, _<_}
+use Prim.Native.Nat.{ℕ, _+_, _-_, _≤_, _<_}
 use mathlib.Core.Path.{_≡_, refl, sym, _∙_}
 use mathlib.Core.Bool.{true, false}
 use mathlib.Core.List.{List, [], _∷_, _++_}
@@ -9,40 +9,16 @@ use native.Mathlib.Numerals.{add-one}
 use native.Mathlib.Omega.{arith}
 use lib.Dec.{ltb}
 use lib.ListN.{length, getD, take, drop, set, length-set, length-drop, drop-of-length-le}
-use lib.Seq.{take-all, take-suc, take-suc-set, drop-cons}
+use lib.Seq.{take-all, take-suc, take-suc-set}
 use borrow.Author.Tests.{lt-ltb, le-ltb}
 use Rattle.model.specs.declared.calls.Call.the-variants.{Unreadable}
 use Rattle.protocol.specs.Widths.{kept}
 use Rattle.protocol.specs.Lines.{lineFeed}
 use Rattle.protocol.specs.Run.{feedAt}
-use Rattle.protocol.proofs.Laws.{feedAt-here, feedAt-later}
 use Rattle.decoding.specs.declared.read.Frame.{Frame}
 use Rattle.decoding.specs.declared.lines.NextLine.{NextLine}
 use Rattle.decoding.specs.Frames.{frameIf, frameBy, nextBy}
 use Rattle.decoding.proofs.Reading.{to-end, frame-within}
-
--- ---- looking for a line feed
-
--- no line feed from `from` to `at`: it is looked for from `at` on
-abbrev pub Passed : List ℕ → ℕ → ℕ → Type 0
-Passed s from at = from + feedAt (drop from s) ≡ at + feedAt (drop at s)
-
-module _ (s : List ℕ) (from at : ℕ) (passed : Passed s from at) where
-  pub passed-step : at < length s → (getD s at 0 ≡ lineFeed → ⊥) → Passed s from (at + 1)
-  passed-step l n =
-      let e : feedAt (drop at s) ≡ suc (feedAt (drop (at + 1) s)) = rw (add-one at, drop-cons s at 0 l) (feedAt-later (getD s at 0) (drop (suc at) s) n) in
-      omega arith
-
-  pub passed-found : at < length s → getD s at 0 ≡ lineFeed → at ≡ from + feedAt (drop from s)
-  passed-found l h =
-      let e : feedAt (drop at s) ≡ 0 = rw (drop-cons s at 0 l) (feedAt-here (getD s at 0) (drop (suc at) s) h) in
-      omega arith
-
-  pub passed-all : length s ≤ at → at ≡ from + feedAt (drop from s)
-  unfolding feedAt
-  passed-all l =
-      let e : feedAt (drop at s) ≡ 0 = rw (drop-of-length-le s {i = at} l) in
-      omega arith
 
 -- ---- a copy with a line feed
 

@@ -16,15 +16,15 @@ use lib.Seq.{take-all, getD-drop}
 use types.Run.{OneOf}
 use borrow.Author.Tests.{lt-ltb, le-ltb, eq-eqb, ne-eqb, le-leb, lt-leb, ltb-true, leb-true, eqb-true}
 use Rattle.sets.proofs.Laws.{and-both}
-use Rattle.model.specs.declared.calls.Product.{Product}
-use Rattle.model.specs.declared.calls.Ask.the-variants.{Open, Conflicting, Add, Show}
 use Rattle.model.specs.declared.calls.Call.{Call}
-use Rattle.model.specs.declared.calls.Call.the-variants.{Session, Read, Unreadable}
+use Rattle.model.specs.declared.calls.Call.the-variants.{Unreadable}
 use Rattle.protocol.specs.Lines.{lineFeed, restDigits, calledBy}
+use Rattle.kinds.specs.Kinds.{fieldIn}
+use Rattle.kinds.proofs.Laws.{no-kind, unknown}
 use Rattle.decoding.specs.declared.read.Fields.{Fields}
 use Rattle.decoding.specs.declared.read.Chosen.{Chosen}
 use Rattle.decoding.specs.declared.read.Frame.{Frame}
-use Rattle.decoding.specs.Fields.{pairAt, pairsRight, pairsNumber, endedBy, fieldsOf, noFields, oneField, twoFields, fourFields, chosenSet, addition, fieldsBy, fieldIn, productOf}
+use Rattle.decoding.specs.Fields.{pairAt, pairsRight, pairsNumber, endedBy, fieldsOf, noFields, oneField, twoFields, fourFields, chosenSet, addition, fieldsBy}
 use Rattle.decoding.specs.Frames.{isFrame, frameIf, callBy, frameBy}
 
 -- a part of a list that runs to its end
@@ -245,33 +245,7 @@ each P (suc n) all k h = go (decLt k n) (each P n (all .0) k)
 pub by-kind : (P : ℕ → Type 0) → P 0 → P 1 → P 2 → P 3 → P 4 → P 5 → P 6 → P 7 → P 8 → P 9 → P 10 → P 11 → P 12 → P 13 → P 14 → P 15 → (k : ℕ) → k < 16 → P k
 by-kind P a b c d e f g h i j l m n o p q = each P 16 ((((((((((((((((tt, a), b), c), d), e), f), g), h), i), j), l), m), n), o), p), q)
 
--- no kind is 0, or above 15
-no-kind : (k : ℕ) → (k < 1) ⊎ (15 < k) → (j : ℕ) → (1 ≤ j) × (j ≤ 15) → eqb k j ≡ false
-no-kind k h j l = ne-eqb k j (λ e. ⊎-elim (λ w. omega arith) (λ w. omega arith) h)
-
-pub unknown : (k : ℕ) (field : ℕ → ℕ) (set : ℕ) → (k < 1) ⊎ (15 < k) → calledBy k field set ≡ Unreadable
-unfolding calledBy
-unknown k field set h =
-    let no : (j : ℕ) → (1 ≤ j) × (j ≤ 15) → eqb k j ≡ false = no-kind k h in
-    rw (
-      no 1 (omega arith),
-      no 2 (omega arith),
-      no 3 (omega arith),
-      no 4 (omega arith),
-      no 5 (omega arith),
-      no 6 (omega arith),
-      no 7 (omega arith),
-      no 8 (omega arith),
-      no 9 (omega arith),
-      no 10 (omega arith),
-      no 11 (omega arith),
-      no 12 (omega arith),
-      no 13 (omega arith),
-      no 14 (omega arith),
-      no 15 (omega arith),
-    )
-
--- and none of them has digits behind it
+-- what is no kind has no digits behind it
 pub no-digits : (k : ℕ) → (k < 1) ⊎ (15 < k) → restDigits k ≡ 0
 unfolding restDigits
 no-digits k h =
@@ -306,48 +280,6 @@ past-shapes k l one two four set =
     let to9 : 9 ≤ k = up 8 (λ e. set (inl e)) (up 7 (λ e. two (inl e)) (up 6 (λ e. one (inl e)) l)) in
     let to12 : 12 ≤ k = up 11 (λ e. one (inr e)) (up 10 (λ e. two (inr (inl e))) (up 9 (λ e. four (inl e)) to9)) in
     up 15 (λ e. two (inr (inr (inr e)))) (up 14 (λ e. four (inr e)) (up 13 (λ e. set (inr e)) (up 12 (λ e. two (inr (inr (inl e)))) to12)))
-
--- none of the numbers from 1 on to n is it
-abbrev pub NoneOf : ℕ → ℕ → Type 0
-NoneOf k zero = Unit
-NoneOf k (suc n) = NoneOf k n × (k ≡ suc n → ⊥)
-
-past : (k n : ℕ) → (k ≡ 0 → ⊥) → NoneOf k n → n < k
-past k zero z w = omega (arith, z)
-past k (suc n) z w = omega (arith, past k n z (w .0), w .1)
-
--- the same where the kinds of the two products go in pairs
-pub past-products : (k : ℕ) → (k ≡ 0 → ⊥) → NoneOf k 5 → (OneOf (6 ∷ 11 ∷ []) k → ⊥) → (OneOf (7 ∷ 12 ∷ []) k → ⊥) → (OneOf (8 ∷ 13 ∷ []) k → ⊥) → (OneOf (9 ∷ 14 ∷ []) k → ⊥)
-    → (OneOf (10 ∷ 15 ∷ []) k → ⊥) → 15 < k
-past-products k z w a b c d e =
-    past k 15 z
-    ((((((((((w, λ h. a (inl h)), λ h. b (inl h)), λ h. c (inl h)), λ h. d (inl h)), λ h. e (inl h)), λ h. a (inr h)), λ h. b (inr h)), λ h. c (inr h)), λ h. d (inr h)), λ h. e (inr h))
-
--- the call of one of two kinds, one for each product
-module _ (k : ℕ) {p : Product} (a b c d set : ℕ) (of : p ≡ productOf k) where
-  either : (call : Product → Call) (i j : ℕ) → call (productOf i) ≡ calledBy i (fieldIn a b c d) set → call (productOf j) ≡ calledBy j (fieldIn a b c d) set
-      → (k ≡ i) ⊎ (k ≡ j) → call p ≡ calledBy k (fieldIn a b c d) set
-  either call i j first second h = rw of (⊎-elim (λ e. rw e first) (λ e. rw e second) h)
-
-  pub open-called : OneOf (6 ∷ 11 ∷ []) k → Session p a Open ≡ calledBy k (fieldIn a b c d) set
-  unfolding productOf calledBy fieldIn
-  open-called = either (λ q. Session q a Open) 6 11 refl refl
-
-  pub conflicting-called : OneOf (7 ∷ 12 ∷ []) k → Session p a (Conflicting b) ≡ calledBy k (fieldIn a b c d) set
-  unfolding productOf calledBy fieldIn
-  conflicting-called = either (λ q. Session q a (Conflicting b)) 7 12 refl refl
-
-  pub add-called : OneOf (8 ∷ 13 ∷ []) k → Session p a (Add b set) ≡ calledBy k (fieldIn a b c d) set
-  unfolding productOf calledBy fieldIn
-  add-called = either (λ q. Session q a (Add b set)) 8 13 refl refl
-
-  pub read-called : OneOf (9 ∷ 14 ∷ []) k → Read p a b c d ≡ calledBy k (fieldIn a b c d) set
-  unfolding productOf calledBy fieldIn
-  read-called = either (λ q. Read q a b c d) 9 14 refl refl
-
-  pub show-called : OneOf (10 ∷ 15 ∷ []) k → Session p a (Show b) ≡ calledBy k (fieldIn a b c d) set
-  unfolding productOf calledBy fieldIn
-  show-called = either (λ q. Session q a (Show b)) 10 15 refl refl
 
 -- ---- a frame from the fields that were read
 

@@ -3,30 +3,13 @@
 -- Assumes nothing.
 use Prim.Native.Nat.{ℕ, zero, suc, _+_, _*_, _/_}
 use mathlib.Core.Bool.{Bool, true, false, cond, _&&_}
-use mathlib.Core.List.{List, [], _∷_}
+use mathlib.Core.List.{List}
 use lib.Dec.{eqb, ltb}
-use lib.ListN.{length, getD, set, drop, replicate}
-use Rattle.model.specs.declared.calls.Product.{Product}
-use Rattle.model.specs.declared.calls.Product.the-variants.{Server, TermBank}
+use lib.ListN.{length, getD, drop}
 use Rattle.protocol.specs.Widths.{setDigits}
-use Rattle.protocol.specs.Digits.{glyph}
 use Rattle.protocol.specs.Lines.{lineFeed, fields}
 use Rattle.decoding.specs.declared.read.Fields.{Fields}
 use Rattle.decoding.specs.declared.read.Chosen.{Chosen}
-
--- ---- the tables of the digits
-
--- so many times its value for each of the first n digits, and 256 for every other byte
-unfoldable pub digitTable : ℕ → ℕ → List ℕ
-digitTable times zero = replicate 256 256
-digitTable times (suc v) = set (digitTable times v) (glyph v) (v * times)
-
--- what each byte counts for as the first of two digits, and as the second
-unfoldable pub highTable : List ℕ
-highTable = digitTable 16 16
-
-unfoldable pub lowTable : List ℕ
-lowTable = digitTable 1 16
 
 -- ---- pairs of bytes, by any two tables
 
@@ -84,11 +67,3 @@ fieldsBy high low s n =
     (cond (eqb n (fields 2)) (twoFields high low s)
     (cond (eqb n (fields 4)) (fourFields high low s)
     (cond (eqb n (fields 2 + setDigits)) (addition high low s) noFields)))
-
--- field i of four
-unfoldable pub fieldIn : ℕ → ℕ → ℕ → ℕ → ℕ → ℕ
-fieldIn a b c d i = getD (a ∷ b ∷ c ∷ d ∷ []) i 0
-
--- the product of a kind from 06 on to 0f: the server's kinds stand before the term bank's
-unfoldable pub productOf : ℕ → Product
-productOf kind = cond (ltb kind 0x0b) Server TermBank

@@ -1,16 +1,15 @@
 // The next line of an input: its call, and where it ends. A frame's kind tells its length, so that
 // only a line that is no frame is searched for its line feed.
-use super::BYTES;
 use super::read;
+use digits::BYTES;
 use model::Call;
 use protocol::KEPT;
 ghost use mathlib.Core.Path.{_≡_};
 ghost use mathlib.Core.List.{[], _∷_, _++_};
 ghost use Prim.Native.Nat.{_+_, _<_};
-ghost use lib.ListN.{length, take, drop};
+ghost use lib.ListN.{length, take};
 ghost use Rattle.protocol.specs.Widths.{kept};
 ghost use Rattle.protocol.specs.Lines.{lineFeed};
-ghost use Rattle.protocol.specs.Run.{feedAt};
 ghost use Rattle.decoding.specs.Frames.{nextBy};
 
 // A line's call, the place of its line feed, or the input's end where it has none, and whether it has
@@ -20,20 +19,6 @@ pub struct NextLine {
     pub call: Call,
     pub end: usize,
     pub ended: bool,
-}
-
-// The place of the first line feed from a place on, or the end where there is none.
-pub fn find_feed(s: &[u8], from: usize) -> usize
-    ensures { λ r. ⌜ r ≡ from + feedAt (drop from (now (s .entry))) ⌝ }
-{
-    let mut at = from;
-    while at < s.len() {
-        if s[at] == 10 {
-            return at;
-        }
-        at += 1;
-    }
-    at
 }
 
 // The line from a place on.
@@ -62,7 +47,7 @@ pub fn next_line<'a>(
             ended: true,
         };
     }
-    let end = find_feed(s, at);
+    let end = pieces::find_feed(s, at);
     NextLine {
         call: Call::Unreadable,
         end,

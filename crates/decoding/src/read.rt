@@ -1,18 +1,14 @@
 // Reading a frame: two digits give the kind, and the fields are taken from the rest of the line.
-use super::BYTES;
-use super::digits;
 use super::lines;
-use model::Ask;
+use digits::BYTES;
 use model::Call;
-use model::Change;
-use model::Product;
 use protocol::KEPT;
 use protocol::SET_DIGITS;
 ghost use mathlib.Core.Path.{_≡_};
 ghost use Prim.Native.Nat.{_+_, _≤_};
 ghost use lib.ListN.{length};
-ghost use Rattle.protocol.specs.Lines.{restDigits, calledBy, callOf};
-ghost use Rattle.decoding.specs.Fields.{pairAt, oneField, twoFields, fourFields, chosenSet, addition, fieldsBy, fieldIn, productOf};
+ghost use Rattle.protocol.specs.Lines.{restDigits, callOf};
+ghost use Rattle.decoding.specs.Fields.{pairAt, oneField, twoFields, fourFields, chosenSet, addition, fieldsBy};
 ghost use Rattle.decoding.specs.Frames.{frameBy};
 
 // How many digits an addition's fields have, its whole frame, and its fields with a line feed.
@@ -59,20 +55,12 @@ struct Chosen {
     set: u64,
 }
 
-// What two bytes count for together. A parameter has the range that an element of a lent table
-// lacks.
-fn both(high: u16, low: u16) -> usize
-    ensures { λ r. ⌜ r ≡ high + low ⌝ }
-{
-    high as usize + low as usize
-}
-
 // The number of the two digits at a place, and 256 or more where one of the bytes is no digit.
 fn two<'a>(high: &'a [u16; BYTES], low: &'a [u16; BYTES], s: &'a [u8], at: usize) -> usize
     requires { ⌜ at + 2 ≤ length (now s) ⌝ }
     ensures { λ r. ⌜ r ≡ pairAt (now (high .entry)) (now (low .entry)) (now (s .entry)) at ⌝ }
 {
-    both(high[s[at] as usize], low[s[at + 1] as usize])
+    digits::pair(high, low, s[at], s[at + 1])
 }
 
 fn one_field<'a>(high: &'a [u16; BYTES], low: &'a [u16; BYTES], s: &'a [u8]) -> Fields
@@ -199,8 +187,7 @@ fn fields_and_set<'a>(high: &'a [u16; BYTES], low: &'a [u16; BYTES], s: &'a [u8]
 }
 
 // The fields of a frame of this kind, of whose rest the input is. Where the kind is not of digits, it
-// falls among the unknown ones. The kinds of the two products share an arm: they come in any order, and
-// a branch that tells them apart costs more, where it is mispredicted, than the read.
+// falls among the unknown ones. As in `kinds::call_of`, the kinds of the two products share an arm.
 fn fields_of<'a>(high: &'a [u16; BYTES], low: &'a [u16; BYTES], s: &'a [u8], kind: u64) -> Fields
     ensures { λ r. ⌜ r ≡ fieldsBy (now (high .entry)) (now (low .entry)) (now (s .entry)) (restDigits kind) ⌝ }
 {
@@ -210,72 +197,6 @@ fn fields_of<'a>(high: &'a [u16; BYTES], low: &'a [u16; BYTES], s: &'a [u8], kin
         9 | 14 => four_fields(high, low, s),
         8 | 13 => fields_and_set(high, low, s),
         0 | 16..=u64::MAX => NO_FIELDS,
-    }
-}
-
-// Calls by their parts.
-fn permit(role: usize, database: usize) -> Call
-    ensures { λ r. ⌜ r ≡ Call.Table (Change.Permit role database) ⌝ }
-{
-    Call::Table(Change::Permit { role, database })
-}
-
-fn revoke(role: usize, database: usize) -> Call
-    ensures { λ r. ⌜ r ≡ Call.Table (Change.Revoke role database) ⌝ }
-{
-    Call::Table(Change::Revoke { role, database })
-}
-
-fn asked(product: Product, session: usize, ask: Ask) -> Call
-    ensures { λ r. ⌜ r ≡ Call.Session product session ask ⌝ }
-{
-    Call::Session {
-        product,
-        session,
-        ask,
-    }
-}
-
-fn read(product: Product, user: usize, session: usize, flow: usize, database: usize) -> Call
-    ensures { λ r. ⌜ r ≡ Call.Read product user session flow database ⌝ }
-{
-    Call::Read {
-        product,
-        user,
-        session,
-        flow,
-        database,
-    }
-}
-
-// The product that the calls of a kind are for, among the kinds that have one.
-fn product_of(kind: u64) -> Product
-    ensures { λ r. ⌜ r ≡ productOf kind ⌝ }
-{
-    if kind < 11 {
-        Product::Server
-    } else {
-        Product::TermBank
-    }
-}
-
-// The call of a kind with these fields. As in `fields_of`, the kinds of the two products share an arm.
-fn call_of(kind: u64, a: usize, b: usize, c: usize, d: usize, chosen: u64) -> Call
-    ensures { λ r. ⌜ r ≡ calledBy kind (fieldIn a b c d) chosen ⌝ }
-{
-    let product = product_of(kind);
-    match kind {
-        1 => Call::Table(Change::Assign { user: a, role: b }),
-        2 => Call::Table(Change::Withdraw { user: a, role: b }),
-        3 => permit(a, b),
-        4 => revoke(a, b),
-        5 => Call::Table(Change::Forward { from: a, to: b }),
-        6 | 11 => asked(product, a, Ask::Open),
-        7 | 12 => asked(product, a, Ask::Conflicting { root: b }),
-        8 | 13 => asked(product, a, Ask::Add { root: b, chosen }),
-        9 | 14 => read(product, a, b, c, d),
-        10 | 15 => asked(product, a, Ask::Show { flow: b }),
-        0 | 16..=u64::MAX => Call::Unreadable,
     }
 }
 
@@ -293,7 +214,7 @@ pub(crate) fn decode<'a>(high: &'a [u16; BYTES], low: &'a [u16; BYTES], line: &'
         return NO_FRAME;
     }
     Frame {
-        call: call_of(kind, f.a, f.b, f.c, f.d, f.chosen),
+        call: kinds::call_of(kind, f.a, f.b, f.c, f.d, f.chosen),
         digits,
     }
 }

@@ -3,16 +3,15 @@
 -- Assumes nothing.
 use Prim.Native.Nat.{ℕ, zero, suc, _+_, _-_, _*_, _/_, _%_, _≤_, _<_}
 use mathlib.Core.Path.{_≡_, refl, sym, ap, _∙_, subst}
-use mathlib.Core.Bool.{Bool, true, false, cond, _&&_, and-false}
+use mathlib.Core.Bool.{Bool, true, false, _&&_, and-false}
 use mathlib.Core.List.{List, [], _∷_, _++_, append-assoc, append-nil}
 use native.Mathlib.Nat.{add-zero, zero-add}
 use native.Mathlib.Numerals.{add-one}
-use native.Mathlib.Decide.{decLt}
 use native.Mathlib.Omega.{arith}
 use lib.Dec.{leb, ltb}
 use lib.ListN.{length, getD, take, drop, set, replicate, length-append, length-take, length-drop, length-set, take-append-drop}
-use lib.Seq.{getD-take, getD-drop, sets, sets-eq, length-take-le, take-at, drop-at, take-suc, drop-drop, set-at}
-use borrow.Author.Tests.{le-leb, lt-leb, lt-ltb, le-ltb, leb-true, ltb-true}
+use lib.Seq.{getD-take, getD-drop, sets, length-take-le, take-at, drop-at, take-suc, drop-drop, set-at}
+use borrow.Author.Tests.{le-leb, lt-leb, ltb-true}
 use denote.Enum.Declared.{tagOf}
 use types.Run.{OneOf, miss}
 use Rattle.model.proofs.calls.Answer.{the-type}
@@ -22,7 +21,7 @@ use Rattle.model.specs.declared.Sessions.{Sessions}
 use Rattle.model.specs.declared.calls.Answer.{Answer}
 use Rattle.model.specs.declared.calls.Answer.the-variants.{Version, Roles, Flow, Granted, Constraint as Answer·Constraint, Refused}
 use Rattle.model.specs.Limits.{flowCount}
-use Rattle.model.specs.State.{allSessions, placeCount, filled, place, setPlace, rolesetAt}
+use Rattle.model.specs.State.{allSessions, filled, place, setPlace, rolesetAt}
 use Rattle.model.specs.Calls.{returned, verdictOf, constraintAt}
 use Rattle.model.proofs.Laws.{getD-filled}
 use Rattle.protocol.specs.Widths.{versionDigits, setDigits, longest}
@@ -30,15 +29,17 @@ use Rattle.protocol.specs.Digits.{glyph, hex}
 use Rattle.protocol.specs.Lines.{lineFeed, roleSets, values, shownSets, lineOf}
 use Rattle.protocol.specs.Run.{shownIn}
 use Rattle.protocol.proofs.Laws.{hex-length, values-length}
-use Rattle.encoding.specs.declared.Line.{Line}
-use Rattle.encoding.specs.declared.Line.the-variants.{Written, NoRoom}
-use Rattle.encoding.specs.Written.{Wrote, Puts, roomAt, hasPlace, shownPlace, constraintOf, writable, lineAnswer, lineWritten, ending, endAnswer, endWritten}
+use Rattle.answers.specs.Answers.{hasPlace, shownPlace}
+use Rattle.output.specs.declared.Line.the-variants.{Written, NoRoom}
+use Rattle.output.specs.Output.{roomAt}
+use Rattle.output.proofs.Laws.{stored}
+use Rattle.encoding.specs.Written.{Wrote, Puts, constraintOf, writable, lineAnswer, lineWritten}
 
 -- ---- writes
 
 -- bytes that are stored one after the other
 pub wrote-stores : (bytes old : List ℕ) (at : ℕ) → at + length bytes ≤ length old → Wrote old (sets old at bytes) at (at + length bytes) bytes
-wrote-stores bytes old at l = record { room = l; place = refl; holds = sets-eq bytes old at l ∙ append-assoc (take at old) bytes _ }
+wrote-stores bytes old at l = record { room = l; place = refl; holds = stored bytes old at l }
 
 pub wrote-nothing : (old : List ℕ) (at : ℕ) → at ≤ length old → Wrote old old at at []
 wrote-nothing old at l = record { room = omega arith; place = omega arith; holds = wrote-stores [] old at (omega arith) .holds }
@@ -84,15 +85,6 @@ hex-suc n v = refl
 hex-two : (v : ℕ) → hex 2 v ≡ glyph (v / 16 % 16) ∷ glyph (v % 16) ∷ []
 unfolding hex
 hex-two v = refl
-
--- the code's digit
-pub glyph-sum : (v d : ℕ) → d ≡ v % 16 → 48 + d + (d + 6) / 16 * 39 ≡ glyph (v % 16)
-unfolding glyph
-glyph-sum v d e = rw (← e) (go (decLt d 10))
-  where
-    go : Dec (d < 10) → 48 + d + (d + 6) / 16 * 39 ≡ cond (ltb d 10) (48 + d) (87 + d)
-    go (yes l) = let q : (d + 6) / 16 ≡ 0 = omega arith in rw (lt-ltb d 10 l, q) (omega arith)
-    go (no l) = let q : (d + 6) / 16 ≡ 1 = omega (arith, l) in rw (le-ltb d 10 (omega (arith, l)), q) (omega arith)
 
 -- two digits, stored one after the other
 pub wrote-two : (old : List ℕ) (at v : ℕ) {a b : ℕ} → a ≡ glyph (v / 16 % 16) → b ≡ glyph (v % 16) → at + 2 ≤ length old → Wrote old (set (set old at a) (at + 1) b) at (at + 2) (hex 2 v)
@@ -159,52 +151,22 @@ pub wrote-line : {x y z : List ℕ} {i j k : ℕ} (a : Answer) (c : Constraint) 
 unfolding lineOf
 wrote-line {z = z} {k = k} a c v e two rest l = rw (← e) (wrote-both two (wrote-both rest (wrote-feed z k l)))
 
--- ---- the flow that an answer shows
+-- ---- how many role sets an answer shows
 
-pub shown-here : (a : Answer) (s f : ℕ) → a ≡ Answer·Constraint s f → s < allSessions → f < flowCount → (s * flowCount + f ≡ shownPlace a) × (s * flowCount + f < placeCount)
-unfolding shownPlace place
-shown-here a s f e l m = (rw (e, lt-ltb s allSessions l, lt-ltb f flowCount m), omega arith)
-
-pub shown-session : (a : Answer) (s f : ℕ) → a ≡ Answer·Constraint s f → allSessions ≤ s → (0 ≡ shownPlace a) × (0 < placeCount)
-unfolding shownPlace
-shown-session a s f e l = (rw (e, le-ltb s allSessions l), omega arith)
-
-pub shown-flow : (a : Answer) (s f : ℕ) → a ≡ Answer·Constraint s f → s < allSessions → flowCount ≤ f → (0 ≡ shownPlace a) × (0 < placeCount)
-unfolding shownPlace
-shown-flow a s f e l m = (rw (e, lt-ltb s allSessions l, le-ltb f flowCount m), omega arith)
-
--- an answer that shows none, by the tags that the code's test leaves
-none-shown : (a : Answer) → OneOf (0 ∷ 1 ∷ 2 ∷ 3 ∷ 5 ∷ []) (tagOf the-type a) → (0 ≡ shownPlace a) × (0 ≡ shownSets a) × (true ≡ hasPlace a)
-unfolding shownPlace shownSets hasPlace
-none-shown (Version v) h = (refl, refl, refl)
-none-shown (Roles m) h = (refl, refl, refl)
-none-shown (Flow n k v) h = (refl, refl, refl)
-none-shown Granted h = (refl, refl, refl)
-none-shown (Answer·Constraint s f) h = absurd (miss (0 ∷ 1 ∷ 2 ∷ 3 ∷ 5 ∷ []) 4 tt h)
-none-shown (Refused why) h = (refl, refl, refl)
-
-pub shown-nowhere : (a : Answer) → OneOf (0 ∷ 1 ∷ 2 ∷ 3 ∷ 5 ∷ []) (tagOf the-type a) → (0 ≡ shownPlace a) × (0 < placeCount)
-shown-nowhere a h = (none-shown a h .0, omega arith)
-
--- whether it has a place
-pub place-none : (a : Answer) → OneOf (0 ∷ 1 ∷ 2 ∷ 3 ∷ 5 ∷ []) (tagOf the-type a) → true ≡ hasPlace a
-place-none a h = none-shown a h .2
-
-pub place-above : (a : Answer) (s f : ℕ) → a ≡ Answer·Constraint s f → allSessions ≤ s → false ≡ hasPlace a
-unfolding hasPlace
-place-above a s f e l = rw (e, le-ltb s allSessions l)
-
-pub place-below : (a : Answer) (s f : ℕ) → a ≡ Answer·Constraint s f → s < allSessions → ltb f flowCount ≡ hasPlace a
-unfolding hasPlace
-place-below a s f e l = rw (e, lt-ltb s allSessions l)
-
--- whether it shows no more role sets than there are
+-- whether they are no more than there are
 pub writable-sets : (a : Answer) (s f : ℕ) → a ≡ Answer·Constraint s f → ltb f flowCount ≡ leb (shownSets a) flowCount
 unfolding shownSets
 writable-sets a s f e = rw e
 
+-- by the tags that the code's test leaves
 pub writable-none : (a : Answer) → OneOf (0 ∷ 1 ∷ 2 ∷ 3 ∷ 5 ∷ []) (tagOf the-type a) → true ≡ leb (shownSets a) flowCount
-writable-none a h = rw (← none-shown a h .1)
+unfolding shownSets
+writable-none (Version v) h = refl
+writable-none (Roles m) h = refl
+writable-none (Flow n k v) h = refl
+writable-none Granted h = refl
+writable-none (Answer·Constraint s f) h = absurd (miss (0 ∷ 1 ∷ 2 ∷ 3 ∷ 5 ∷ []) 4 tt h)
+writable-none (Refused why) h = refl
 
 -- a flow that is shown, where no more role sets are shown than there are
 pub shown-below : (a : Answer) (s f : ℕ) → a ≡ Answer·Constraint s f → shownSets a ≤ flowCount → f < flowCount
@@ -234,22 +196,6 @@ unfolding lineAnswer lineWritten
 whole-line a c e w = (rw e (ap Written (rw zero-add at (w .place))), rw e (rw zero-add at (w .holds)))
 
 -- ---- a line from a place on
-
-pub room-past : (out : List ℕ) (at : ℕ) → length out < at → false ≡ roomAt out at
-unfolding roomAt
-room-past out at l = sym (lt-leb (at + longest) (length out) (omega arith))
-
-pub room-here : (out : List ℕ) (at : ℕ) → at ≤ length out → leb longest (length out - at) ≡ roomAt out at
-unfolding roomAt
-room-here out at l = go (decLt (length out) (at + longest))
-  where
-    go : Dec (length out < at + longest) → leb longest (length out - at) ≡ leb (at + longest) (length out)
-    go (yes h) = lt-leb longest (length out - at) (omega arith) ∙ sym (lt-leb (at + longest) (length out) h)
-    go (no h) = le-leb longest (length out - at) (omega (arith, h)) ∙ sym (le-leb (at + longest) (length out) (omega (arith, h)))
-
-pub room-there : (out : List ℕ) (at : ℕ) → roomAt out at ≡ true → at + longest ≤ length out
-unfolding roomAt
-room-there out at e = leb-true (at + longest) (length out) e
 
 pub puts-none : {can : Bool} (old : List ℕ) (at : ℕ) (bytes : List ℕ) → can ≡ false → Puts can old old at at bytes
 puts-none old at bytes e = record { place = rw e; holds = rw e }
@@ -312,38 +258,3 @@ pub puts-answer : (S : Sessions) (a : Answer) {old new : List ℕ} {at next : �
     → Wrote old new at next (lineOf a (constraintOf (getD (S .versions) k 0) (getD (S .denies) k 0) (take (k * flowCount + flowCount - k * flowCount) (drop (k * flowCount) (S .rolesets)))))
     → Puts (roomAt old at && hasPlace a) old new at next (lineOf a (shownIn S a))
 puts-answer S a k room has e w = puts-line (rw (room, has)) (wrote-same (rw (eight k, e) (line-shown S a has)) w)
-
--- ---- the end of input
-
-abbrev Ended : List ℕ → List ℕ → ℕ → List ℕ → Line → Type 0
-Ended old new at bytes r = (r ≡ endAnswer old at bytes) × (new ≡ endWritten old at bytes)
-
--- the place is past the buffer's end
-pub ended-past : (old : List ℕ) (len at : ℕ) → length old < at → Ended old old at (ending len) NoRoom
-unfolding endAnswer endWritten
-ended-past old len at l = rw (lt-leb (at + length (ending len)) (length old) (omega arith)) (refl, refl)
-
--- no line has begun
-pub ended-none : (old : List ℕ) (len at : ℕ) → len ≡ 0 → at ≤ length old → Ended old old at (ending len) (Written at)
-unfolding ending endAnswer endWritten
-ended-none old len at q l = let z : at + 0 ≡ at = omega arith in rw (q, z, le-leb at (length old) l) (refl, sym (take-append-drop at old))
-
-three : (len : ℕ) → (len ≡ 0 → ⊥) → ending len ≡ 48 ∷ 49 ∷ lineFeed ∷ []
-unfolding ending
-three zero h = absurd (h refl)
-three (suc n) h = refl
-
--- too little room
-pub ended-short : (old : List ℕ) (len at : ℕ) → (len ≡ 0 → ⊥) → at ≤ length old → length old - at < 3 → Ended old old at (ending len) NoRoom
-unfolding endAnswer endWritten
-ended-short old len at q l h = rw (three len q, lt-leb (at + 3) (length old) (omega arith)) (refl, refl)
-
--- the number is stored
-pub ended-line : (old : List ℕ) (len at : ℕ) → (len ≡ 0 → ⊥) → at ≤ length old → 3 ≤ length old - at → Ended old (set (set (set old at 48) (at + 1) 49) (at + 2) 10) at (ending len) (Written (at + 3))
-unfolding endAnswer endWritten
-ended-line old len at q l h =
-    let w = wrote-stores (48 ∷ 49 ∷ lineFeed ∷ []) old at (omega arith) in
-    rw (three len q, le-leb (at + 3) (length old) (omega arith)) (refl, rw (add-one at, add-two at) (w .holds))
-  where
-    add-two : (n : ℕ) → n + 2 ≡ suc (suc n)
-    add-two n = omega arith

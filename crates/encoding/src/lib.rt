@@ -1,49 +1,37 @@
-// Writing an answer: its line, in digits, into a lent buffer from a place on.
+// Writing an answer: its line, in digits, into a lent buffer from a place on. What is asked of an answer
+// is in `answers`; a digit, the room in a buffer and the end of input are in `output`.
 use model::Answer;
 use model::Constraint;
 use model::Engine;
-use model::Refusal;
 use model::Version;
+pub use output::Line;
+pub use output::write_end;
 use protocol::LONGEST;
 use protocol::SET_DIGITS;
 use protocol::VERSION_DIGITS;
 ghost use mathlib.Core.Path.{_≡_};
 ghost use mathlib.Core.Bool.{_&&_};
 ghost use mathlib.Core.List.{List, [], _∷_, _++_};
-ghost use Prim.Native.Nat.{ℕ, suc, _+_, _*_, _%_, _≤_, _<_};
+ghost use Prim.Native.Nat.{ℕ, _+_, _*_, _≤_};
 ghost use lib.Dec.{leb};
 ghost use lib.ListN.{length};
 ghost use Rattle.model.specs.Limits.{flowCount};
-ghost use Rattle.model.specs.State.{placeCount, sessionsOf};
-ghost use Rattle.model.specs.Calls.{numberOf, returned, verdictOf};
+ghost use Rattle.model.specs.State.{sessionsOf};
 ghost use Rattle.protocol.specs.Widths.{fieldDigits, versionDigits, setDigits, longest};
-ghost use Rattle.protocol.specs.Digits.{glyph, hex};
+ghost use Rattle.protocol.specs.Digits.{hex};
 ghost use Rattle.protocol.specs.Lines.{lineFeed, roleSets, values, shownSets, lineOf};
 ghost use Rattle.protocol.specs.Run.{shownIn};
-ghost use Rattle.encoding.specs.Written.{Wrote, Puts, roomAt, hasPlace, shownPlace, constraintOf, lineAnswer, lineWritten};
-ghost use Rattle.encoding.specs.Written.{ending, endAnswer, endWritten};
-
-// What became of a line: the place behind it, or that it was not written.
-pub enum Line {
-    Written(usize),
-    NoRoom,
-}
-
-// The digit of v's last four bits.
-fn glyph(v: u64) -> u8
-    ensures { λ r. ⌜ r ≡ glyph (v % 16) ⌝ }
-{
-    let d = v % 16;
-    (48 + d + (d + 6) / 16 * 39) as u8
-}
+ghost use Rattle.answers.specs.Answers.{hasPlace};
+ghost use Rattle.output.specs.Output.{roomAt};
+ghost use Rattle.encoding.specs.Written.{Wrote, Puts, constraintOf, lineAnswer, lineWritten};
 
 // The last two digits of v. Every line begins with two, so these are written without a loop.
 fn write_two(v: u64, out: &mut [u8], at: usize) -> usize
     requires { ⌜ at + 2 ≤ length (now out) ⌝ }
     ensures { λ r. ⌜ Wrote (now (out .entry)) (now (out .exit)) at r (hex 2 v) ⌝ }
 {
-    out[at] = glyph(v / 16);
-    out[at + 1] = glyph(v);
+    out[at] = output::high_glyph(v);
+    out[at + 1] = output::glyph(v);
     at + 2
 }
 
@@ -56,7 +44,7 @@ fn write_hex(v: u64, n: usize, out: &mut [u8], at: usize) -> usize
     let mut k = n;
     while 0 < k {
         k -= 1;
-        out[at + k] = glyph(x);
+        out[at + k] = output::glyph(x);
         x /= 16;
     }
     at + n
@@ -74,49 +62,6 @@ fn write_sets(sets: &[u64], n: usize, out: &mut [u8], at: usize) -> usize
         g += 1;
     }
     next
-}
-
-// The number of a refusal.
-fn number(why: Refusal) -> u64
-    ensures { λ r. ⌜ r ≡ numberOf why ⌝ }
-{
-    match why {
-        Refusal::Malformed => 1,
-        Refusal::AboveLimit => 2,
-        Refusal::AlreadyThere => 3,
-        Refusal::NotThere => 4,
-        Refusal::FlowAdded => 5,
-        Refusal::NotOpen => 6,
-        Refusal::SessionFull => 7,
-        Refusal::NotConflicting => 8,
-        Refusal::VersionsSpent => 9,
-        Refusal::NoSuchFlow => 10,
-        Refusal::OutOfReach => 11,
-        Refusal::NoPermission => 12,
-        Refusal::Changed => 13,
-        Refusal::Linkable => 14,
-    }
-}
-
-// 0 for what is accepted, else the number refused.
-fn returned(a: Answer) -> u64
-    ensures { λ r. ⌜ r ≡ returned (verdictOf a) ⌝ }
-{
-    match a {
-        Answer::Refused(why) => number(why),
-        Answer::Version(_) => 0,
-        Answer::Roles(_) => 0,
-        Answer::Flow {
-            number: _,
-            reach: _,
-            version: _,
-        } => 0,
-        Answer::Granted => 0,
-        Answer::Constraint {
-            session: _,
-            flow: _,
-        } => 0,
-    }
 }
 
 // A constraint with n role sets.
@@ -189,61 +134,22 @@ fn write_line(
     requires { ⌜ at + longest ≤ length (now out) ⌝ }
     ensures { λ r. ⌜ Wrote (now (out .entry)) (now (out .exit)) at r (lineOf a (constraintOf version deny (now (sets .entry)))) ⌝ }
 {
-    let next = write_two(returned(a), out, at);
+    let next = write_two(answers::returned(a), out, at);
     let end = write_values(a, version, deny, sets, out, next);
     out[end] = 10;
     end + 1
-}
-
-// Whether every line has room from a place on.
-fn has_room(out: &[u8], at: usize) -> bool
-    ensures { λ b. ⌜ b ≡ roomAt (now (out .entry)) at ⌝ }
-{
-    if out.len() < at {
-        return false;
-    }
-    LONGEST <= out.len() - at
 }
 
 // A number and a line feed, which is the whole answer to a read, from a place on.
 pub fn write_number(n: u64, out: &mut [u8], at: usize) -> usize
     ensures { λ r. ⌜ Puts (roomAt (now (out .entry)) at) (now (out .entry)) (now (out .exit)) at r (hex fieldDigits n ++ (lineFeed ∷ [])) ⌝ }
 {
-    if !has_room(out, at) {
+    if !output::has_room(out, at) {
         return at;
     }
     let end = write_two(n, out, at);
     out[end] = 10;
     end + 1
-}
-
-// Whether the answer shows no constraint, or that of a flow that has a place. Its session has its number
-// among those of both products.
-fn has_place(a: Answer) -> bool
-    ensures { λ b. ⌜ b ≡ hasPlace a ⌝ }
-{
-    if let Answer::Constraint { session, flow } = a {
-        if Engine::ALL_SESSIONS <= session {
-            return false;
-        }
-        return flow < Engine::FLOWS;
-    }
-    true
-}
-
-// The place of the flow that an answer shows.
-fn shown_place(a: Answer) -> usize
-    ensures { λ r. ⌜ r ≡ shownPlace a ⌝ }
-    ensures { λ r. ⌜ r < placeCount ⌝ }
-{
-    if let Answer::Constraint { session, flow } = a {
-        if session < Engine::ALL_SESSIONS {
-            if flow < Engine::FLOWS {
-                return session * Engine::FLOWS + flow;
-            }
-        }
-    }
-    0
 }
 
 // The line of an answer, from a place on; a constraint that it shows is taken from the arrays.
@@ -257,13 +163,13 @@ pub fn write_answer<'a>(
 ) -> usize
     ensures { λ r. ⌜ ((opened : ℕ) (counts roots reaches : List ℕ) → Puts (roomAt (now (out .entry)) at && hasPlace a) (now (out .entry)) (now (out .exit)) at r (lineOf a (shownIn (sessionsOf opened counts roots reaches (now (versions .entry)) (now (denies .entry)) (now (rolesets .entry))) a))) ⌝ }
 {
-    if !has_room(out, at) {
+    if !output::has_room(out, at) {
         return at;
     }
-    if !has_place(a) {
+    if !answers::has_place(a) {
         return at;
     }
-    let k = shown_place(a);
+    let k = answers::shown_place(a);
     let from = k * Engine::FLOWS;
     let all = &rolesets[..];
     write_line(
@@ -299,24 +205,4 @@ pub fn answer_line(a: Answer, c: Constraint, out: &mut [u8]) -> Line
     }
     let sets = c.roles;
     Line::Written(write_line(a, c.version, c.deny, &sets, out, 0))
-}
-
-// The answer to a line that has no line feed, of which this many bytes are there, from a place on: its
-// number, where a line has begun.
-pub fn write_end(len: usize, out: &mut [u8], at: usize) -> Line
-    ensures { λ r. ⌜ (r ≡ endAnswer (now (out .entry)) at (ending len)) × (now (out .exit) ≡ endWritten (now (out .entry)) at (ending len)) ⌝ }
-{
-    if out.len() < at {
-        return Line::NoRoom;
-    }
-    if len == 0 {
-        return Line::Written(at);
-    }
-    if out.len() - at < 3 {
-        return Line::NoRoom;
-    }
-    out[at] = 48;
-    out[at + 1] = 49;
-    out[at + 2] = 10;
-    Line::Written(at + 3)
 }

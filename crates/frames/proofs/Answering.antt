@@ -26,7 +26,9 @@ use Rattle.protocol.specs.Digits.{hex}
 use Rattle.protocol.specs.Lines.{lineFeed, values, lineOf}
 use Rattle.protocol.specs.Run.{shownIn, reply}
 use Rattle.protocol.proofs.Laws.{Placed, placed, reply-length}
-use Rattle.encoding.specs.Written.{Wrote, Puts, roomAt, hasPlace}
+use Rattle.answers.specs.Answers.{hasPlace}
+use Rattle.output.specs.Output.{roomAt}
+use Rattle.encoding.specs.Written.{Wrote, Puts}
 use Rattle.encoding.proofs.Writing.{wrote-same, puts-wrote}
 
 -- ---- a line that is written

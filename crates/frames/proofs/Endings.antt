@@ -23,10 +23,10 @@ use Rattle.protocol.specs.Digits.{glyph, hex}
 use Rattle.protocol.specs.Lines.{callOf, values, lineOf, lineFeed}
 use Rattle.protocol.specs.Run.{lastCall, reply, replies, run, Fed, wrote, fed, feedAt, finish, shownIn}
 use Rattle.protocol.proofs.Laws.{more, run-more, more-end, more-line, feedAt-le, feed-there, no-feed-of, no-feed-before, no-more, one-line, fed-run, fed-left, fed-fits}
-use Rattle.encoding.specs.declared.Line.{Line}
-use Rattle.encoding.specs.declared.Line.the-variants.{Written, NoRoom}
+use Rattle.output.specs.declared.Line.{Line}
+use Rattle.output.specs.declared.Line.the-variants.{Written, NoRoom}
 use Rattle.frames.specs.declared.stream.Fed.{Fed as Given}
-use Rattle.encoding.specs.Written.{ending, endAnswer, endWritten}
+use Rattle.output.specs.Output.{ending, endAnswer, endWritten}
 use Rattle.frames.specs.Stream.{Feeds, takesWhole, ranOutput, Ran}
 
 -- what the machine still writes at the end

@@ -16,7 +16,7 @@ use Rattle.protocol.specs.Lines.{callOf}
 use Rattle.protocol.specs.Run.{Fed, wrote, fed, feedAt, reply}
 use Rattle.protocol.proofs.Laws.{waiting, one-line, no-room, no-more, feedAt-le, fed-shorter, wrote-none, wrote-wrote}
 use Rattle.decoding.specs.declared.lines.NextLine.{NextLine}
-use Rattle.decoding.specs.Fields.{highTable, lowTable}
+use Rattle.digits.specs.Tables.{highTable, lowTable}
 use Rattle.decoding.specs.Frames.{nextBy, LineAt}
 use Rattle.decoding.proofs.Meaning.{Bytes, next-right}
 use Rattle.encoding.specs.Written.{Wrote}

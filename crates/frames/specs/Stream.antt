@@ -11,8 +11,8 @@ use Rattle.model.specs.State.{fresh}
 use Rattle.protocol.specs.Widths.{longest}
 use Rattle.protocol.specs.Run.{run, Fed, fed, feedAt}
 use Rattle.frames.specs.declared.stream.Fed.{Fed as Given}
-use Rattle.encoding.specs.declared.Line.{Line}
-use Rattle.encoding.specs.declared.Line.the-variants.{Written, NoRoom}
+use Rattle.output.specs.declared.Line.{Line}
+use Rattle.output.specs.declared.Line.the-variants.{Written, NoRoom}
 
 -- what is given back of a piece of input is what the machine does: how much was taken, what was written at the start of the buffer, the rest of it as it was,
 -- and the engine after it; where the longest answer has room, a piece with a whole line in it is not given back whole

@@ -12,7 +12,8 @@ ghost use Rattle.model.specs.State.{tablesOf, directoryOf, sessionsOf, engineOf
 ghost use Rattle.model.specs.Calls.{after};
 ghost use Rattle.protocol.specs.Widths.{longest};
 ghost use Rattle.protocol.specs.Run.{reply, fed};
-ghost use Rattle.encoding.specs.Written.{Wrote, ending, endAnswer, endWritten};
+ghost use Rattle.output.specs.Output.{ending, endAnswer, endWritten};
+ghost use Rattle.encoding.specs.Written.{Wrote};
 ghost use Rattle.frames.specs.Stream.{Feeds};
 
 // How many bytes of the input were taken and of the output written.

@@ -1,5 +1,5 @@
-// Any call, on the arrays of a whole engine. Each group of calls has a crate of its own: `directory`,
-// `sessions`, `reading`.
+// Any call, on the arrays of a whole engine. The calls stand in crates by what they are about:
+// `assignment`, `permission`, `forwarding`, `sessions`, `addition`, `reading`.
 use model::Answer;
 use model::Ask;
 use model::Call;
@@ -51,9 +51,9 @@ fn change<'a>(
     ensures { λ a. ⌜ done a (directoryOf (tablesOf (now (roles .exit)) (now (readers .exit)) (now (forwards .exit))) (now (versions .exit)) (now (version .exit))) ≡ change (directoryOf (tablesOf (now (roles .entry)) (now (readers .entry)) (now (forwards .entry))) (now (versions .entry)) (now (version .entry))) (now (counts .entry)) c ⌝ }
 {
     match c {
-        Change::Assign { user, role } => directory::assign(roles, versions, version, user, role),
-        Change::Withdraw { user, role } => directory::withdraw(roles, *version, user, role),
-        Change::Permit { role, database } => directory::permit(
+        Change::Assign { user, role } => assignment::assign(roles, versions, version, user, role),
+        Change::Withdraw { user, role } => assignment::withdraw(roles, *version, user, role),
+        Change::Permit { role, database } => permission::permit(
             roles,
             readers,
             versions,
@@ -61,7 +61,7 @@ fn change<'a>(
             role,
             database,
         ),
-        Change::Revoke { role, database } => directory::revoke(
+        Change::Revoke { role, database } => permission::revoke(
             roles,
             readers,
             versions,
@@ -69,7 +69,7 @@ fn change<'a>(
             role,
             database,
         ),
-        Change::Forward { from, to } => directory::forward(forwards, *version, counts, from, to),
+        Change::Forward { from, to } => forwarding::forward(forwards, *version, counts, from, to),
     }
 }
 
@@ -97,7 +97,7 @@ fn ask<'a>(
             sessions::conflicting(roles, readers, forwards, *opened, counts, reaches, s, root)
         }
         Ask::Add { root, chosen } => {
-            sessions::add(
+            addition::add(
                 roles,
                 readers,
                 forwards,

@@ -1,9 +1,9 @@
 -- Where there is room and the answer has a place, its line is written with what stands there.
 use mathlib.Core.Path.{sym, _∙_}
-use native.Mathlib.Omega.{arith}
 use borrow.Author.Needs.{needs}
 use borrow.Author.Tests.{not-true, not-false}
-use Rattle.encoding.proofs.Writing.{room-there, place-few, part-long, puts-none, puts-placeless, puts-answer, wrote-length}
+use Rattle.output.proofs.Laws.{room-there}
+use Rattle.encoding.proofs.Writing.{place-few, part-long, puts-none, puts-placeless, puts-answer, wrote-length}
 use Rattle.encoding.proofs.write_answer.Statement.{statement}
 use Rattle.encoding.proofs.write_answer.Tie as tie
 

@@ -1,12 +1,10 @@
 -- Two digits, and a line feed behind them.
-use Prim.Native.Nat.{_+_, _≤_}
 use mathlib.Core.Path.{sym, _∙_}
 use native.Mathlib.Omega.{arith}
-use lib.ListN.{length}
 use borrow.Author.Needs.{needs}
 use borrow.Author.Tests.{not-true, not-false}
-use Rattle.protocol.specs.Widths.{longest}
-use Rattle.encoding.proofs.Writing.{wrote-both, wrote-feed, wrote-place, wrote-length, room-there, puts-none, puts-line}
+use Rattle.output.proofs.Laws.{room-there}
+use Rattle.encoding.proofs.Writing.{wrote-both, wrote-feed, wrote-place, wrote-length, puts-none, puts-line}
 use Rattle.encoding.proofs.write_number.Statement.{statement}
 use Rattle.encoding.proofs.write_number.Tie as tie
 

@@ -10,7 +10,7 @@ slice-write-out-2 : tie.Need-slice-write-out-2
 slice-write-out-2 c = simp length-set (omega arith)
 
 returns : tie.Need-returns
-returns c = wrote-two _ _ _ (c .before .glyph .ensures) (c .glyph2 .ensures) (c .before .before .before .pre)
+returns c = wrote-two _ _ _ (c .before .high-glyph .ensures) (c .glyph .ensures) (c .before .before .before .pre)
 
 pub write-two-spec : {M : Type 1} → statement M
 write-two-spec =

@@ -3,7 +3,7 @@ use mathlib.Core.Bool.{not}
 use borrow.Author.Needs.{needs}
 use borrow.Author.Tests.{le-leb, lt-leb}
 use Rattle.model.specs.Calls.{conflictsIn, conflicting}
-use Rattle.sessions.proofs.Additions.{conflicts-found}
+use Rattle.search.proofs.ByFlow.{conflicts-found}
 use Rattle.sessions.proofs.conflicting.Statement.{statement}
 use Rattle.sessions.proofs.conflicting.Tie as tie
 

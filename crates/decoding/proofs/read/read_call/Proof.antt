@@ -4,7 +4,7 @@ use native.Mathlib.Omega.{arith}
 use lib.ListN.{length, length-append}
 use Rattle.protocol.specs.Lines.{lineFeed}
 use Rattle.protocol.proofs.Laws.{longer}
-use Rattle.decoding.specs.Fields.{highTable, lowTable}
+use Rattle.digits.specs.Tables.{highTable, lowTable}
 use Rattle.decoding.specs.Frames.{frameBy}
 use Rattle.decoding.proofs.Meaning.{line-found, line-other}
 use Rattle.decoding.proofs.read.read_call.Statement.{statement}
