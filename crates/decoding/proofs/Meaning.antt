@@ -6,7 +6,7 @@ use mathlib.Core.Path.{_≡_, refl, ap, sym, _∙_}
 use mathlib.Core.Bool.{Bool, true, false, cond, _&&_, and-assoc, true≢false}
 use mathlib.Core.List.{List, [], _∷_, _++_}
 use mathlib.Core.Logic.{inl, inr}
-use native.Mathlib.Nat.{add-zero, add-suc, suc-add, zero-add, le-of-suc-le-suc, not-suc-le-zero}
+use native.Mathlib.Nat.{suc-add, zero-add}
 use native.Mathlib.Numerals.{add-one}
 use native.Mathlib.Decide.{decLt}
 use native.Mathlib.Omega.{arith}
@@ -15,7 +15,7 @@ use mir.Val.{Fits}
 use lib.Dec.{ltb, eqb, leb}
 use lib.ListN.{length, getD, take, drop, length-drop, length-append}
 use lib.Seq.{take-nil, take-add, take-take, drop-cons, drop-drop, drop-at, take-at, getD-drop, getD-at, length-take-le}
-use borrow.Author.Tests.{lt-ltb, le-ltb, eq-eqb, le-leb, eqb-true, leb-true}
+use borrow.Author.Tests.{lt-ltb, eq-eqb, le-leb, eqb-true, leb-true}
 use Rattle.sets.specs.Sets.{count}
 use Rattle.sets.proofs.Laws.{and-both, count-all}
 use Rattle.model.specs.declared.calls.Change.the-variants.{Assign, Withdraw, Permit, Revoke, Forward}
@@ -23,7 +23,7 @@ use Rattle.model.specs.declared.calls.Product.the-variants.{Server, TermBank}
 use Rattle.model.specs.declared.calls.Ask.the-variants.{Open, Conflicting, Add, Show}
 use Rattle.model.specs.declared.calls.Call.{Call}
 use Rattle.model.specs.declared.calls.Call.the-variants.{Table, Session, Read, Unreadable}
-use Rattle.protocol.specs.Digits.{digit, allDigits, numberFrom, number, glyph}
+use Rattle.protocol.specs.Digits.{digit, allDigits, numberFrom, number}
 use Rattle.protocol.specs.Lines.{lineFeed, field, restDigits, calledBy, called, frame, callOf}
 use Rattle.protocol.specs.Run.{feedAt}
 use Rattle.protocol.proofs.Laws.{feedAt-here, feedAt-later, feed-there}

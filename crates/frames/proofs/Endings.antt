@@ -5,12 +5,11 @@ use mathlib.Core.Path.{_≡_, refl, sym, ap, subst, _∙_}
 use mathlib.Core.Bool.{Bool, true, false, cond}
 use mathlib.Core.List.{List, [], _∷_, _++_, append-nil, append-assoc}
 use native.Mathlib.Decide.{decLt}
-use native.Mathlib.Numerals.{add-one}
 use native.Mathlib.Omega.{arith}
 use lib.Dec.{eqb, leb}
-use lib.ListN.{length, set, take, drop, replicate, length-append, length-drop, take-append-drop}
+use lib.ListN.{length, take, drop, replicate, length-append, length-drop}
 use lib.Seq.{take-at, drop-at, drop-drop}
-use borrow.Author.Tests.{le-leb, lt-leb, eq-eqb, ne-eqb}
+use borrow.Author.Tests.{le-leb, eq-eqb, ne-eqb}
 use Rattle.model.specs.declared.Engine.{Engine}
 use Rattle.model.specs.declared.calls.Call.{Call}
 use Rattle.tables.specs.Tables.{userCount, databaseCount}
@@ -24,7 +23,7 @@ use Rattle.protocol.specs.Lines.{callOf, values, lineOf, lineFeed}
 use Rattle.protocol.specs.Run.{lastCall, reply, replies, run, Fed, wrote, fed, feedAt, finish, shownIn}
 use Rattle.protocol.proofs.Laws.{more, run-more, more-end, more-line, feedAt-le, feed-there, no-feed-of, no-feed-before, no-more, one-line, fed-run, fed-left, fed-fits}
 use Rattle.output.specs.declared.Line.{Line}
-use Rattle.output.specs.declared.Line.the-variants.{Written, NoRoom}
+use Rattle.output.specs.declared.Line.the-variants.{NoRoom}
 use Rattle.frames.specs.declared.stream.Fed.{Fed as Given}
 use Rattle.output.specs.Output.{ending, endAnswer, endWritten}
 use Rattle.frames.specs.Stream.{Feeds, takesWhole, ranOutput, Ran}

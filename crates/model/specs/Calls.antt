@@ -1,13 +1,12 @@
 -- The calls: of each its checks in the order of the refusal table, its change and its answer, in one equation. The contracts promise these of the code.
 -- Nobody has to believe them: Demands says what they come to, by a ledger that knows nothing of them.
 -- Assumes nothing.
-use Prim.Native.Nat.{ℕ, suc, _+_, _*_, _^_}
+use Prim.Native.Nat.{ℕ, suc, _+_, _^_}
 use mathlib.Core.Bool.{Bool, true, false, cond, not, _&&_}
-use mathlib.Core.List.{List, [], _∷_}
+use mathlib.Core.List.{List}
 use lib.Dec.{leb, ltb, eqb}
 use lib.ListN.{getD, set, replicate}
 use Rattle.sets.specs.Sets.{has, inserted, joined, meeting, sizeOf}
-use Rattle.rows.specs.Rows.{there}
 use Rattle.rows.specs.Reach.{reach}
 use Rattle.tables.specs.declared.Tables.{Tables}
 use Rattle.tables.specs.Tables.{userCount, roleCount, databaseCount, holds, mayRead, forwardsTo, heldBy, assigned, withdrawn, permitted, revoked, forwarded}

@@ -8,7 +8,7 @@ use native.Mathlib.Numerals.{add-one}
 use native.Mathlib.Omega.{arith}
 use lib.Dec.{ltb}
 use lib.ListN.{length, getD, take, drop, set, length-take, length-drop, length-set}
-use lib.Seq.{length-take-le, take-all, take-suc, take-take, take-at, drop-cons, getD-append-add, getD-drop, set-at}
+use lib.Seq.{length-take-le, take-all, take-suc, take-take, drop-cons, getD-append-add, getD-drop, set-at}
 use borrow.Author.Tests.{lt-ltb, le-ltb}
 use Rattle.protocol.specs.Widths.{kept}
 use Rattle.protocol.specs.Run.{feedAt, keptOf}

@@ -1,6 +1,6 @@
 -- The demands for bytes and for pieces hold.
 -- Assumes nothing.
-use Prim.Native.Nat.{ℕ, zero, suc, _≤_, _<_}
+use Prim.Native.Nat.{ℕ, zero, suc, _<_}
 use mathlib.Core.Path.{_≡_, refl, sym, ap, _∙_}
 use mathlib.Core.Bool.{Bool, true, false, cond}
 use mathlib.Core.List.{List, [], _∷_, _++_, append-nil, append-assoc}
@@ -17,7 +17,7 @@ use Rattle.model.specs.Demands.{engineAfter, callAt, engineAt}
 use Rattle.model.proofs.Seen.{demand1}
 use Rattle.model.proofs.Demands.{demand3}
 use Rattle.protocol.specs.Widths.{kept}
-use Rattle.protocol.specs.Run.{callsOf, reply, replies, run, Fed, wrote, fed, feedAt, keptOf, finish}
+use Rattle.protocol.specs.Run.{callsOf, reply, replies, run, Fed, wrote, fed, feedAt, keptOf}
 use Rattle.protocol.proofs.Laws.{more, run-more, more-end, more-capped, fed-more, fed-left, fed-shorter, no-feed-of, feedAt-le}
 use Rattle.protocol.specs.Demands.{ByteDemands, Piece, allBytes, fedAll, InPieces, Progress}
 

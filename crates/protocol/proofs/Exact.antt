@@ -2,22 +2,20 @@
 -- Assumes nothing.
 use Prim.Native.Nat.{ℕ, zero, suc, _+_, _^_, _≤_, _<_}
 use mathlib.Core.Path.{_≡_, refl, sym, ap, ap₂, _∙_, subst}
-use mathlib.Core.Bool.{Bool, true, false, cond, not, _&&_}
+use mathlib.Core.Bool.{Bool, false, cond, _&&_}
 use mathlib.Core.List.{List, [], _∷_, _++_}
 use mathlib.Core.Logic.{_⊎_, inl, inr, ⊎-elim, _≢_}
 use native.Mathlib.Decide.{ℕ-discrete, decLt}
 use native.Mathlib.Omega.{arith}
-use lib.Dec.{leb, ltb, eqb}
+use lib.Dec.{eqb}
 use lib.ListN.{length, getD, replicate}
 use lib.Seq.{getD-set-same, getD-set-other}
-use borrow.Author.Tests.{leb-false, lt-ltb, le-ltb, eqb-true, eq-eqb, ne-eqb}
-use Rattle.sets.specs.Sets.{has, setOf, some, count, joined, shared, sizeOf}
+use borrow.Author.Tests.{lt-ltb, le-ltb, eqb-true, eq-eqb}
+use Rattle.sets.specs.Sets.{has, setOf, count, joined, shared, sizeOf}
 use Rattle.sets.proofs.Laws.{and-both, some-cong, count-cong, setOf-lt, setOf-cong, has-setOf, is-setOf}
-use Rattle.tables.specs.declared.Tables.{Tables}
 use Rattle.rows.specs.Rows.{image}
 use Rattle.rows.specs.Reach.{reach}
 use Rattle.tables.specs.Tables.{userCount, roleCount, databaseCount, overlaps, parentsOf}
-use Rattle.model.specs.declared.Directory.{Directory}
 use Rattle.model.specs.declared.Sessions.{Sessions}
 use Rattle.model.specs.declared.Engine.{Engine}
 use Rattle.model.specs.declared.calls.Product.{Product}
@@ -26,10 +24,9 @@ use Rattle.model.specs.declared.calls.Call.{Call}
 use Rattle.model.specs.declared.calls.Call.the-variants.{Table, Session, Read, Unreadable}
 use Rattle.model.specs.declared.calls.Verdict.{Verdict}
 use Rattle.model.specs.declared.calls.Verdict.the-variants.{Granted, Refused}
-use Rattle.model.specs.declared.calls.Answer.{Answer}
 use Rattle.model.specs.Limits.{sessionCount, flowCount}
 use Rattle.model.specs.State.{allSessions, sessionAt, placeCount}
-use Rattle.model.specs.State.{fresh, engineOf, filled, place, setPlace, reachWith, conflicts, roleSet, rolesetAt, denyBefore}
+use Rattle.model.specs.State.{fresh, engineOf, filled, place, reachWith, conflicts, roleSet, rolesetAt, denyBefore}
 use Rattle.model.specs.Calls.{numberOf, returned, verdictOf, flowsIn, conflictsIn, withFlow, step, verdict, after, answer, constraintAt}
 use Rattle.model.specs.Ledger.{Ledger, same, flowOf, reachOf, isConflicting}
 use Rattle.model.specs.Refusals.{refusal, accepts, newFlow, taken, ledgerStep}
@@ -44,7 +41,7 @@ use Rattle.protocol.specs.Widths.{versionDigits, setDigits}
 use Rattle.protocol.specs.Digits.{hex}
 use Rattle.protocol.specs.Lines.{callOf, roleSets, values, lineOf}
 use Rattle.protocol.specs.Run.{split, lastCall, callsOf, shownIn, reply, replies, run}
-use Rattle.protocol.specs.Specification.{inDigits, M, Feedless, Input, Book, isParent, inRoleSet, setsNow, next, setsOf, told, answerLine, answers, blank, Output}
+use Rattle.protocol.specs.Specification.{inDigits, M, Feedless, Input, Book, isParent, inRoleSet, setsNow, next, setsOf, told, answerLine, answers, blank}
 use Rattle.protocol.specs.Specification.{none as feedless-none, byte as feedless-byte, ended as input-ended, line as input-line, unended as input-unended}
 use Rattle.protocol.specs.Demands.{Exact}
 use Rattle.protocol.proofs.Laws.{NoFeed, split-line, split-rest}

@@ -7,13 +7,12 @@ use mathlib.Core.List.{List, [], _∷_, _++_, map, append-nil, append-assoc}
 use native.Mathlib.Decide.{decLt}
 use native.Mathlib.Omega.{arith}
 use lib.Dec.{eqb, leb, ltb}
-use lib.ListN.{length, getD, take, drop, length-append, length-take, length-drop}
-use lib.Seq.{take-all, append-snoc, drop-drop, drop-at, length-take-le}
-use borrow.Author.Tests.{eqb-true, eqb-false, eq-eqb, ne-eqb, ltb-true, ltb-false, lt-ltb, le-ltb, leb-false}
+use lib.ListN.{length, take, drop, length-append, length-take, length-drop}
+use lib.Seq.{take-all, append-snoc, drop-drop, drop-at}
+use borrow.Author.Tests.{eqb-true, eqb-false, eq-eqb, ne-eqb, ltb-false, lt-ltb, le-ltb, leb-false}
 use Rattle.sets.proofs.Laws.{or-neither}
 use Rattle.model.specs.declared.Constraint.{Constraint}
 use Rattle.model.specs.declared.Engine.{Engine}
-use Rattle.model.specs.declared.calls.Refusal.{Refusal}
 use Rattle.model.specs.declared.calls.Verdict.{Verdict}
 use Rattle.model.specs.declared.calls.Verdict.the-variants.{Granted as Verdict·Granted, Refused as Verdict·Refused}
 use Rattle.model.specs.declared.calls.Product.{Product}
@@ -26,15 +25,15 @@ use Rattle.model.specs.State.{allSessions, sessionAt, fresh}
 use Rattle.model.specs.Limits.{sessionCount, flowCount}
 use Rattle.model.specs.Calls.{returned, flowsIn, verdict, after, answer}
 use Rattle.model.specs.Refusals.{rows, askRows}
-use Rattle.model.specs.Demands.{seen, Demand1}
+use Rattle.model.specs.Demands.{seen}
 use Rattle.model.proofs.Laws.{session-within}
 use Rattle.model.proofs.Chains.{not-met}
 use Rattle.model.proofs.SeenRows.{length-flows}
 use Rattle.model.proofs.Seen.{demand1}
 use Rattle.protocol.specs.Widths.{versionDigits, setDigits, kept, longest}
 use Rattle.protocol.specs.Digits.{allDigits, number, hex}
-use Rattle.protocol.specs.Lines.{restDigits, called, frame, callOf, lineFeed, roleSets, values, shownSets, lineOf}
-use Rattle.protocol.specs.Run.{Split, withByte, split, lastCall, callsOf, shownIn, reply, replies, run, Fed, wrote, fedFrom, fed, feedAt, keptOf, finish}
+use Rattle.protocol.specs.Lines.{restDigits, frame, callOf, lineFeed, roleSets, values, shownSets, lineOf}
+use Rattle.protocol.specs.Run.{Split, withByte, split, lastCall, callsOf, shownIn, reply, replies, run, Fed, wrote, fedFrom, fed, feedAt, finish}
 
 -- ---- a line is read by its first 23 bytes
 

@@ -10,7 +10,6 @@ use lib.Dec.{ltb}
 use lib.ListN.{length, getD}
 use Rattle.sets.specs.Sets.{has, some, count}
 use Rattle.tables.specs.Tables.{userCount, roleCount, databaseCount}
-use Rattle.model.specs.declared.calls.Change.{Change}
 use Rattle.model.specs.declared.calls.Change.the-variants.{Assign, Withdraw, Permit, Revoke, Forward}
 use Rattle.model.specs.declared.calls.Product.{Product}
 use Rattle.model.specs.declared.calls.Product.the-variants.{Server, TermBank}

@@ -1,7 +1,7 @@
 -- How the code works out conflicts: the readers of each flow, and whose roles meet two of such sets. The readers serve the role sets too.
 -- Assumes nothing.
 use Prim.Native.Nat.{ℕ}
-use mathlib.Core.Bool.{Bool, cond, _&&_}
+use mathlib.Core.Bool.{cond, _&&_}
 use mathlib.Core.List.{List}
 use lib.Dec.{leb}
 use lib.ListN.{getD, replicate}

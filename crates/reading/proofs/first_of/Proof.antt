@@ -1,5 +1,5 @@
 -- The numbers of the rows, picked in their order.
-use mathlib.Core.Path.{_≡_, refl, ap, _∙_}
+use mathlib.Core.Path.{_≡_, refl}
 use mathlib.Core.Bool.{Bool, true, false, cond}
 use borrow.Author.Needs.{needs}
 use Prim.Native.Nat.{ℕ}

@@ -1,9 +1,8 @@
 -- Each arm is the place of its number in the list of verdicts; past the list there is none.
 use Prim.Native.Nat.{ℕ, suc, _≤_}
 use mathlib.Core.Path.{_≡_, sym}
-use lib.ListN.{length, List·getD-eq-default}
+use lib.ListN.{List·getD-eq-default}
 use native.Mathlib.Omega.{arith}
-use borrow.Author.Needs.{needs}
 use Rattle.model.specs.declared.calls.Refusal.the-variants.{Malformed}
 use Rattle.model.specs.declared.calls.Verdict.the-variants.{Refused}
 use Rattle.reading.specs.Numbers.{verdicts, verdictBy}
