@@ -4,8 +4,9 @@
 # CPU time (user and system) of PROGRAM and of the model on a list of reads and
 # a mixed list of LINES lines (1000000), in turn, RUNS runs each (9); medians
 # and their ratio.  Then the user time for a peer that sends one frame and
-# waits for its answer before it sends the next (PEER frames, 200000), and what
-# one read costs as users, roles, flows, sessions and products in use grow.
+# waits for its answer before it sends the next (PEER frames, 200000), what an
+# addition and a question cost on lists that do little else, and what one read
+# costs as users, roles, flows, sessions and products in use grow.
 # MODEL names a model that is built already; SEED gives other lists.  From the
 # root of the repository:
 #     reference/measure.sh target/bin/linkage
@@ -48,10 +49,10 @@ def cpu(command, path):
     return use.ru_utime + use.ru_stime
 
 
-def medians(path):
+def medians(path, turns=runs):
     """The programs in turn, so that both meet the machine in the same states."""
     times = {n: [] for n, _ in programs}
-    for i in range(runs + 1):
+    for i in range(turns + 1):
         for n, command in programs:
             t = cpu(command, path)
             if i:                           # the first round warms up
@@ -104,6 +105,55 @@ print("   user time, program/model %.2f" % (user["program"] / max(user["model"],
 sys.stdout.flush()
 
 
+# A list, on which the model refuses nothing.
+def write(path, lines):
+    with open(path, "w") as f:
+        f.write("".join(x + "\n" for x in lines))
+    with open(path, "rb") as f:
+        got = subprocess.run([model], stdin=f, stdout=subprocess.PIPE).stdout.split(b"\n")[:-1]
+    if any(answer[:2] != b"00" for answer in got):
+        sys.exit("a line of %s is refused" % os.path.basename(path))
+
+
+# Additions and questions, all accepted.  256 users hold four roles each, two
+# roles read each database, a record goes through four databases, and all
+# sessions are open.  User 255 makes role 2 conflict, which every session's
+# second flow denies.  An engine takes 256 additions, so that list is short and
+# run often; the questions are asked of sessions with four flows.
+def steps(base, asked):
+    out = []
+    for u in range(256):
+        held = {u % 64, (7 * u + 3) % 64, (13 * u + 5) % 64, (29 * u + 11) % 64}
+        out += ["01%02x%02x" % (u, r) for r in sorted(held | ({2, 0, 1, 3, 4} if u == 255 else set()))]
+    for d in range(64):
+        out += ["03%02x%02x" % (r, d) for r in sorted({d // 4 % 5, (11 * d + 6) % 64})]
+    out += ["05%02x%02x" % (d, d + 1) for d in range(64) if d % 4 != 3]
+    sessions = [(5 * p, s) for p in (0, 1) for s in range(16)]
+    out += ["%02x%02x" % (6 + p, s) for p, s in sessions]
+    adds = ["%02x%02x%02x%016x" % (8 + p, s, (9 * f + 4 * s + p) % 64, 4 if f == 1 else 0)
+            for f in range(8) for p, s in sessions]
+    write(base + ".set-up", out)
+    write(base + ".additions", out + adds)
+    write(base + ".half", out + adds[:128])
+    ring, x = [], 1
+    for _ in range(4096):
+        x = (x * 1103515245 + 12345) % 2 ** 31
+        ring.append("%02x%02x%02x" % (7 + 5 * (x >> 20 & 1), x >> 16 & 15, x >> 8 & 63))
+    write(base + ".questions", out + adds[:128] + ring * max(1, asked // 4096))
+    return len(adds), 4096 * max(1, asked // 4096)
+
+
+base = os.path.join(tmp, "steps")
+adds, asked = steps(base, lines // 10)
+before, after = medians(base + ".set-up", 301), medians(base + ".additions", 301)
+half, questions = medians(base + ".half"), medians(base + ".questions")
+for title, cost in (("an addition", {n: (after[n] - before[n]) / adds * 1e9 for n, _ in programs}),
+                    ("a question", {n: (questions[n] - half[n]) / asked * 1e9 for n, _ in programs})):
+    print("ns %s: program %.0f, model %.0f   program/model %.2f"
+          % (title, cost["program"], cost["model"], cost["program"] / max(cost["model"], 1e-9)))
+sys.stdout.flush()
+
+
 # Reads alone, all granted, of the flow added last (one user) or of all flows
 # (many).  From two flows on every reader holds a role of the deny set and meets
 # one role set: the longest way to a grant.  Role 2 is the denied one, role 10+f
@@ -123,23 +173,14 @@ def reads(path, users, roles, flows, sessions, products, count):
             out.append("%02x%02x" % (6 + 5 * p, s))
             for f in range(flows):
                 out.append("%02x%02x%02x%016x" % (8 + 5 * p, s, f, 4 if f == 1 else 0))
-    with open(path + ".set-up", "w") as f:
-        f.write("".join(x + "\n" for x in out))
+    write(path + ".set-up", out)
     ring, x = [], 1
     for _ in range(4096):                   # in no order that a processor could learn
         x = (x * 1103515245 + 12345) % 2 ** 31
         u, s, p = (x >> 8) % users, (x >> 16) % sessions, (x >> 20) % products
         f = flows - 1 - u % flows
-        ring.append("%02x%02x%02x%02x%02x\n" % (9 + 5 * p, u, s, f, f))
-    block = "".join(ring)
-    with open(path, "w") as f:
-        f.write("".join(x + "\n" for x in out))
-        for _ in range(max(1, count // 4096)):
-            f.write(block)
-    with open(path, "rb") as f:
-        got = subprocess.run([model], stdin=f, stdout=subprocess.PIPE).stdout.split(b"\n")[:-1]
-    if any(answer[:2] != b"00" for answer in got):
-        sys.exit("a line of the list of reads is refused")
+        ring.append("%02x%02x%02x%02x%02x" % (9 + 5 * p, u, s, f, f))
+    write(path, out + ring * max(1, count // 4096))
     return max(1, count // 4096) * 4096
 
 

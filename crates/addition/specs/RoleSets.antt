@@ -3,11 +3,9 @@
 use Prim.Native.Nat.{ℕ}
 use mathlib.Core.List.{List}
 use lib.ListN.{getD}
-use Rattle.sets.specs.Sets.{shared}
-use Rattle.tables.specs.Tables.{roleCount}
 use Rattle.model.specs.Limits.{flowCount}
 use Rattle.model.specs.State.{filled}
 
--- the role sets from this place on: of each flow's readers, those that are among the parents
-unfoldable pub setsPut : List ℕ → ℕ → ℕ → List ℕ → List ℕ
-setsPut may parents at sets = filled at (λ g. shared roleCount (getD may g 0) parents) flowCount sets
+-- the role sets from this place on are those given, one for each flow
+unfoldable pub setsPut : List ℕ → ℕ → List ℕ → List ℕ
+setsPut given at sets = filled at (λ g. getD given g 0) flowCount sets

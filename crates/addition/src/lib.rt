@@ -1,11 +1,11 @@
 // The call that adds a flow to a session. It is checked, carried out in place on lent arrays and
-// answered in one function, which promises what the call's definition in `model` says. A session has
-// here its number among those of both products.
+// answered in one function, which promises what the call's definition in `model` says. Its work runs in
+// the order of `graph`: databases, roles, overlapping roles. A session has here its number among those
+// of both products.
 use model::Answer;
 use model::Engine;
 use model::Refusal;
 use model::Version;
-use tables::lent;
 ghost use mathlib.Core.Path.{_≡_};
 ghost use mathlib.Core.List.{List};
 ghost use Prim.Native.Nat.{ℕ, _<_, _*_};
@@ -27,24 +27,19 @@ fn deny_before(denies: &[u64; Engine::PLACES], s: usize, n: usize) -> u64
     denies[s * Engine::FLOWS + (n - 1)]
 }
 
-// The flow at this place gets a role set for each flow: of those that may read it, the parents.
-fn put_sets<'a>(
-    rolesets: &mut [u64; Engine::ROLE_SETS],
-    may: &[u64; Engine::FLOWS],
-    parents: u64,
-    at: usize,
-)
+// The flow at this place gets these role sets, one for each flow.
+fn put_sets<'a>(rolesets: &mut [u64; Engine::ROLE_SETS], given: &[u64; Engine::FLOWS], at: usize)
     requires { ⌜ at < placeCount ⌝ }
-    ensures { λ _. ⌜ now (rolesets .exit) ≡ setsPut (now (may .entry)) parents (at * flowCount) (now (rolesets .entry)) ⌝ }
+    ensures { λ _. ⌜ now (rolesets .exit) ≡ setsPut (now (given .entry)) (at * flowCount) (now (rolesets .entry)) ⌝ }
 {
     let mut g = 0usize;
     while g < Engine::FLOWS {
-        rolesets[at * Engine::FLOWS + g] = sets::intersection(may[g], parents);
+        rolesets[at * Engine::FLOWS + g] = given[g];
         g += 1;
     }
 }
 
-// 08: session s gets a flow of this root, with these roles chosen.
+// 08 and 0d: session s gets a flow of this root, with these roles chosen.
 pub fn add<'a>(
     roles: &'a [u64; Engine::USERS],
     readers: &'a [u64; Engine::DATABASES],
@@ -76,15 +71,15 @@ pub fn add<'a>(
     if Engine::FLOWS <= number {
         return Answer::Refused(Refusal::SessionFull);
     }
-    let reach = lent::reach(forwards, root);
-    let may = search::readers_by_flow(readers, reaches, s, number, reach);
+    let reach = graph::databases(forwards, root);
+    let may = graph::roles_by_flow(readers, reaches, s, number, reach);
     if search::outside(chosen, search::conflicts(roles, &may, number + 1)) {
         return Answer::Refused(Refusal::NotConflicting);
     }
     let deny = sets::union(deny_before(denies, s, number), chosen);
-    let parents = lent::parents(roles, deny);
+    let given = graph::overlapping_roles(roles, &may, deny);
     let at = s * Engine::FLOWS + number;
-    put_sets(rolesets, &may, parents, at);
+    put_sets(rolesets, &given, at);
     counts[s] = number + 1;
     roots[at] = root;
     reaches[at] = reach;

@@ -17,37 +17,9 @@ pub use model::Version;
 pub use step::session_at;
 pub use step::step;
 use tables::Tables;
+pub use values::fresh;
 ghost use mathlib.Core.Path.{_≡_};
-ghost use Prim.Native.Nat.{_<_};
-ghost use lib.ListN.{replicate};
-ghost use Rattle.model.specs.Limits.{flowCount};
-ghost use Rattle.model.specs.State.{allSessions, fresh, filled, rolesetAt};
-ghost use Rattle.model.specs.Calls.{verdictOf, answer, after, verdict, constraintAt, shownBy};
-
-// An engine with empty tables and no open session.
-pub fn fresh() -> Engine
-    ensures { λ e. ⌜ e ≡ fresh ⌝ }
-{
-    let tables = Tables::empty();
-    let directory = Directory {
-        tables,
-        versions: [0; Engine::USERS],
-        version: 0,
-    };
-    let sessions = Sessions {
-        opened: 0,
-        counts: [0; Engine::ALL_SESSIONS],
-        roots: [0; Engine::PLACES],
-        reaches: [0; Engine::PLACES],
-        versions: [0; Engine::PLACES],
-        denies: [0; Engine::PLACES],
-        rolesets: [0; Engine::ROLE_SETS],
-    };
-    Engine {
-        directory,
-        sessions,
-    }
-}
+ghost use Rattle.model.specs.Calls.{answer, after, verdict, shownBy};
 
 // Any call, on a copy of the engine's arrays.
 fn taken(e: Engine, call: Call) -> Changed
@@ -158,7 +130,7 @@ pub fn forward(e: Engine, from: usize, to: usize) -> Changed
     taken(e, Call::Table(Change::Forward { from, to }))
 }
 
-// 06
+// 06 and 0b
 pub fn open_session(e: Engine, product: Product, s: usize) -> Changed
     ensures { λ x. ⌜ (x .answer ≡ answer e (Call.Session product s Ask.Open)) × (x .engine ≡ after e (Call.Session product s Ask.Open)) ⌝ }
 {
@@ -172,7 +144,7 @@ pub fn open_session(e: Engine, product: Product, s: usize) -> Changed
     )
 }
 
-// 07
+// 07 and 0c
 pub fn conflicting(e: Engine, product: Product, s: usize, root: usize) -> Answer
     ensures { λ a. ⌜ a ≡ answer e (Call.Session product s (Ask.Conflicting root)) ⌝ }
 {
@@ -191,7 +163,7 @@ pub fn conflicting(e: Engine, product: Product, s: usize, root: usize) -> Answer
     )
 }
 
-// 08
+// 08 and 0d
 pub fn add_flow(e: Engine, product: Product, s: usize, root: usize, chosen: u64) -> Changed
     ensures { λ x. ⌜ (x .answer ≡ answer e (Call.Session product s (Ask.Add root chosen))) × (x .engine ≡ after e (Call.Session product s (Ask.Add root chosen))) ⌝ }
 {
@@ -205,79 +177,14 @@ pub fn add_flow(e: Engine, product: Product, s: usize, root: usize, chosen: u64)
     )
 }
 
-// Whether an answer accepts its call, or refuses it.
-fn verdict_of(a: Answer) -> Verdict
-    ensures { λ v. ⌜ v ≡ verdictOf a ⌝ }
-{
-    match a {
-        Answer::Version(_) => Verdict::Granted,
-        Answer::Roles(_) => Verdict::Granted,
-        Answer::Flow {
-            number: _,
-            reach: _,
-            version: _,
-        } => Verdict::Granted,
-        Answer::Granted => Verdict::Granted,
-        Answer::Constraint {
-            session: _,
-            flow: _,
-        } => Verdict::Granted,
-        Answer::Refused(why) => Verdict::Refused(why),
-    }
-}
-
-// The role sets of the constraint of flow f of session s, which has its number among those of both
-// products.
-fn sets_at(rolesets: &[u64; Engine::ROLE_SETS], s: usize, f: usize) -> [u64; Engine::FLOWS]
-    requires { ⌜ s < allSessions ⌝ }
-    requires { ⌜ f < flowCount ⌝ }
-    ensures { λ l. ⌜ l ≡ filled 0 (rolesetAt (now (rolesets .entry)) s f) flowCount (replicate flowCount 0) ⌝ }
-{
-    let mut roles = [0u64; Engine::FLOWS];
-    let mut g = 0usize;
-    while g < Engine::FLOWS {
-        roles[g] = rolesets[(s * Engine::FLOWS + f) * Engine::FLOWS + g];
-        g += 1;
-    }
-    roles
-}
-
-// The constraint of flow f of that session.
-fn constraint_at(kept: Sessions, s: usize, f: usize) -> Constraint
-    requires { ⌜ s < allSessions ⌝ }
-    requires { ⌜ f < flowCount ⌝ }
-    ensures { λ c. ⌜ c ≡ constraintAt kept s f ⌝ }
-{
-    let at = s * Engine::FLOWS + f;
-    let roles = sets_at(&kept.rolesets, s, f);
-    Constraint {
-        version: kept.versions[at],
-        deny: kept.denies[at],
-        roles,
-    }
-}
-
-// 0a
+// 0a and 0f
 pub fn show(e: Engine, product: Product, s: usize, f: usize) -> Shown
     ensures { λ x. ⌜ x ≡ shownBy e product s f ⌝ }
 {
-    let kept = e.sessions;
-    let number = session_at(product, s);
-    let answer = sessions::show(kept.opened, &kept.counts, number, f);
-    let constraint = match verdict_of(answer) {
-        Verdict::Granted => constraint_at(kept, number, f),
-        Verdict::Refused(_) => {
-            Constraint {
-                version: 0,
-                deny: 0,
-                roles: [0; Engine::FLOWS],
-            }
-        }
-    };
-    Shown { answer, constraint }
+    values::shown(e.sessions, session_at(product, s), f)
 }
 
-// 09
+// 09 and 0e
 pub fn read(e: Engine, product: Product, u: usize, s: usize, f: usize, d: usize) -> Verdict
     ensures { λ v. ⌜ v ≡ verdict e (Call.Read product u s f d) ⌝ }
 {

@@ -6,7 +6,11 @@ use libc::STDIN_FILENO;
 use libc::STDOUT_FILENO;
 use model::Engine;
 use model::Version;
+ghost use Prim.Native.Nat.{_<_};
 ghost use Rattle.io.specs.Counts.{Counts};
+
+// How many bytes are read at once, and how many are written.
+const BUFFER: usize = 65536;
 
 // The place that the output has come to, and whether it is still open.
 struct Put {
@@ -14,10 +18,13 @@ struct Put {
     is_open: bool,
 }
 
-// The place in a piece that the lines have come to, and whether the output is still open.
-struct Went {
-    taken: usize,
+// What of the input is to be fed, from a place to the end of what is filled; whether the output is still
+// open; and how many turns are left.
+struct Held {
+    from: usize,
+    filled: usize,
     is_open: bool,
+    turns: u64,
 }
 
 // n, or the length where n is more.
@@ -101,116 +108,74 @@ fn show(bytes: &[u8], n: usize) -> bool {
     write_all(&bytes[..end])
 }
 
-// The place n bytes behind another, or the end.
-fn behind(piece: &[u8], place: usize, n: usize) -> usize {
-    let from = within(place, piece);
-    from + within(n, &piece[from..])
+// What is filled of a buffer, from a place on.
+fn part<'a>(input: &'a [u8; BUFFER], place: usize, filled: usize) -> &'a [u8] {
+    let bytes: &[u8] = input;
+    let end = within(filled, bytes);
+    let whole = &bytes[..end];
+    let from = within(place, whole);
+    &whole[from..]
 }
 
-// Feeds what is left of a piece from a place on, and writes the answers.
-fn feed_some(
-    roles: &mut [u64; Engine::USERS],
-    readers: &mut [u64; Engine::DATABASES],
-    forwards: &mut [u64; Engine::DATABASES],
-    users: &mut [Version; Engine::USERS],
-    version: &mut Version,
-    opened: &mut u64,
-    counts: &mut [usize; Engine::ALL_SESSIONS],
-    roots: &mut [usize; Engine::PLACES],
-    reaches: &mut [u64; Engine::PLACES],
-    versions: &mut [Version; Engine::PLACES],
-    denies: &mut [u64; Engine::PLACES],
-    rolesets: &mut [u64; Engine::ROLE_SETS],
-    piece: &[u8],
-    place: usize,
-    output: &mut [u8],
-) -> Went {
-    let from = within(place, piece);
-    let rest = &piece[from..];
-    let fed = frames::feed(
-        roles,
-        readers,
-        forwards,
-        users,
-        version,
-        opened,
-        counts,
-        roots,
-        reaches,
-        versions,
-        denies,
-        rolesets,
-        rest,
-        output,
-    );
-    let is_open = show(output, fed.written);
-    Went {
-        taken: behind(piece, from, fed.consumed),
-        is_open,
+// The place n bytes behind another, or the buffer's end.
+fn behind(place: usize, n: usize) -> usize {
+    if BUFFER <= place {
+        return BUFFER;
     }
+    if BUFFER - place <= n {
+        return BUFFER;
+    }
+    place + n
 }
 
-// Feeds a piece as long as there are whole lines in it, and writes the answers.
-fn feed_all(
-    roles: &mut [u64; Engine::USERS],
-    readers: &mut [u64; Engine::DATABASES],
-    forwards: &mut [u64; Engine::DATABASES],
-    users: &mut [Version; Engine::USERS],
-    version: &mut Version,
-    opened: &mut u64,
-    counts: &mut [usize; Engine::ALL_SESSIONS],
-    roots: &mut [usize; Engine::PLACES],
-    reaches: &mut [u64; Engine::PLACES],
-    versions: &mut [Version; Engine::PLACES],
-    denies: &mut [u64; Engine::PLACES],
-    rolesets: &mut [u64; Engine::ROLE_SETS],
-    piece: &[u8],
-    output: &mut [u8],
-) -> Went {
-    let mut taken = 0usize;
-    let mut turns = u64::MAX;
-    while 0 < turns {
-        let went = feed_some(
-            roles,
-            readers,
-            forwards,
-            users,
-            version,
-            opened,
-            counts,
-            roots,
-            reaches,
-            versions,
-            denies,
-            rolesets,
-            piece,
-            taken,
-            output,
-        );
-        if !went.is_open {
-            return Went {
-                taken,
-                is_open: false,
-            };
-        }
-        if went.taken <= taken {
-            break;
-        }
-        taken = went.taken;
-        if piece.len() <= taken {
-            break;
-        }
-        turns -= 1;
+// Whether something was taken and something is left.
+fn is_under_way(before: usize, from: usize, filled: usize) -> bool {
+    if from <= before {
+        return false;
     }
-    Went {
-        taken,
+    from < filled
+}
+
+// What is to be fed after this many bytes were taken: the rest, where lines may be left in it; else more
+// is read behind what is left. Nothing where the output is closed.
+fn next(input: &mut [u8; BUFFER], held: Held, consumed: usize, is_open: bool) -> Held
+    requires { ⌜ 0 < held .turns ⌝ }
+    ensures { λ r. ⌜ r .turns < held .turns ⌝ }
+{
+    let from = behind(held.from, consumed);
+    if !is_open {
+        return Held {
+            from,
+            filled: held.filled,
+            is_open: false,
+            turns: 0,
+        };
+    }
+    let turns = held.turns - 1;
+    if is_under_way(held.from, from, held.filled) {
+        return Held {
+            from,
+            filled: held.filled,
+            is_open: true,
+            turns,
+        };
+    }
+    let len = frames::keep(input, from, held.filled);
+    let filled = read_behind(input, len);
+    Held {
+        from: 0,
+        filled,
         is_open: true,
+        turns: if filled <= len { 0 } else { turns },
     }
 }
 
-// Writes the answer to a last line that has no line feed, of which this many bytes are left.
-fn end(len: usize, output: &mut [u8]) {
-    let line = frames::finish(len, output);
+// Writes the answer to a last line that has no line feed.
+fn end(held: Held, output: &mut [u8; BUFFER]) {
+    if !held.is_open {
+        return;
+    }
+    let line = frames::finish(held.filled, output);
     if let Line::Written(n) = line {
         show(output, n);
     }
@@ -229,16 +194,17 @@ fn main() {
     let mut versions = [0 as Version; Engine::PLACES];
     let mut denies = [0u64; Engine::PLACES];
     let mut rolesets = [0u64; Engine::ROLE_SETS];
-    let mut input = io::large_buffer();
-    let mut output = io::large_buffer();
-    let mut len = 0usize;
-    let mut turns = u64::MAX;
-    while 0 < turns {
-        let filled = read_behind(&mut input, len);
-        if filled <= len {
-            break;
-        }
-        let went = feed_all(
+    let mut input = [0u8; BUFFER];
+    let mut output = [0u8; BUFFER];
+    let mut held = Held {
+        from: 0,
+        filled: 0,
+        is_open: true,
+        turns: u64::MAX,
+    };
+    while 0 < held.turns {
+        let rest = part(&input, held.from, held.filled);
+        let fed = frames::feed(
             &mut roles,
             &mut readers,
             &mut forwards,
@@ -251,14 +217,11 @@ fn main() {
             &mut versions,
             &mut denies,
             &mut rolesets,
-            &input[..filled],
+            rest,
             &mut output,
         );
-        if !went.is_open {
-            return;
-        }
-        len = frames::keep(&mut input, went.taken, filled);
-        turns -= 1;
+        let is_open = show(&output, fed.written);
+        held = next(&mut input, held, fed.consumed, is_open);
     }
-    end(len, &mut output);
+    end(held, &mut output);
 }

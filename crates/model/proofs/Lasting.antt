@@ -77,7 +77,7 @@ unfolding engineAfter
 one-more e [] c = refl
 one-more e (b ∷ cs) c = one-more (after e b) cs c
 
-engine-step : (cs : List Call) (k : ℕ) → k < length cs → engineAt cs (suc k) ≡ after (engineAt cs k) (callAt cs k)
+pub engine-step : (cs : List Call) (k : ℕ) → k < length cs → engineAt cs (suc k) ≡ after (engineAt cs k) (callAt cs k)
 unfolding engineAt callAt
 engine-step cs k h = rw (take-suc cs k Unreadable) (one-more fresh (take k cs) (getD cs k Unreadable))
 
@@ -88,7 +88,7 @@ take-past [] (suc k) l = refl
 take-past (c ∷ cs) zero l = absurd (omega arith)
 take-past (c ∷ cs) (suc k) l = ap (λ (r : List Call). c ∷ r) (take-past cs k (omega arith))
 
-past-end : (cs : List Call) (k : ℕ) → length cs ≤ k → engineAt cs (suc k) ≡ engineAt cs k
+pub past-end : (cs : List Call) (k : ℕ) → length cs ≤ k → engineAt cs (suc k) ≡ engineAt cs k
 unfolding engineAt
 past-end cs k l = rw (take-past cs k l)
 
@@ -101,6 +101,10 @@ still-next cs k s f l = go (decLt k (length cs))
 
 still-at : (cs : List Call) (i j s f : ℕ) → i ≤ j → f < flowsOf (engineAt cs i) s → Still (engineAt cs i) (engineAt cs j) s f
 still-at cs i j s f m l = along (λ k. Still (engineAt cs i) (engineAt cs k) s f) i j m (still-here (engineAt cs i) s f l) (λ k a b h. still-later h (still-next cs k s f (h .there)))
+
+-- and it is there from then on
+pub still-there : (cs : List Call) (i j s f : ℕ) → i ≤ j → f < flowsOf (engineAt cs i) s → f < flowsOf (engineAt cs j) s
+still-there cs i j s f m l = still-at cs i j s f m l .there
 
 pub lasting : (cs : List Call) → Lasting cs
 lasting cs = record {

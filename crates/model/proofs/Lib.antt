@@ -10,6 +10,7 @@ pub mod Seen
 pub mod Ledgers
 pub mod Meaning
 pub mod Lasting
+pub mod Steps
 pub mod Kept
 pub mod Demands
 pub mod Closing

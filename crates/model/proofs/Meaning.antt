@@ -35,8 +35,8 @@ use Rattle.model.specs.declared.calls.Verdict.{Verdict}
 use Rattle.model.specs.declared.calls.Verdict.the-variants.{Granted, Refused}
 use Rattle.model.specs.Limits.{sessionCount, flowCount}
 use Rattle.model.specs.State.{allSessions, sessionAt, placeCount}
-use Rattle.model.specs.State.{fresh, engineOf, filled, place, reachWith, conflicts, outside, denyBefore, roleSet, linkable, rolesetAt, newVersion}
-use Rattle.model.specs.Calls.{numberOf, returned, verdictOf, withTables, toHolders, bar, conflictsIn, withFlow, show, links, read, answerOf, ask, step, answer, verdict, after, constraintAt, shownBy}
+use Rattle.model.specs.State.{fresh, engineOf, filled, place, reachWith, conflicts, outside, denyBefore, parentsAmong, roleSet, linkable, rolesetAt, newVersion}
+use Rattle.model.specs.Calls.{numberOf, returned, verdictOf, withTables, toHolders, bar, conflictsIn, withFlow, show, links, read, answerOf, ask, step, answer, verdict, after, constraintAt, shownAt, shownBy}
 use Rattle.model.specs.Demands.{engineAfter, engineAt}
 use Rattle.model.specs.Meaning.{One, Meets, NumbersMean, flowsOf, reachOf, versionOf, denyOf, rolesOf, heldOf, userVersion, ReadsTwo, Links, SetsMean, countedIn, QueryMeans}
 use Rattle.model.specs.Meaning.{Renewed, RenewedHolders, Changes, SameFlow, Opened, Added, Means, ValueMeans, Checked, ReadMeans, ShowMeans, FreshMeans}
@@ -77,32 +77,35 @@ module _ (R U D : ℕ) (T : Tables) where
       p : ℕ → ℕ → Bool
       p x u = holds T u x && leb 2 (count n (q u))
 
+  -- of these roles, the parents of the denied ones
+  pub among-means : (may deny r : ℕ) → (has (parentsAmong R U (T .roles) may deny) r ≡ true)
+      ↔ ((r < R) × (has may r ≡ true) × One R (λ o. (has deny o ≡ true) × One U (λ u. (holds T u o ≡ true) × (holds T u r ≡ true))))
+  among-means may deny r = (
+    λ h.
+        let a = has-shared-iff R may (parentsOf R U (T .roles) deny) r .0 h in
+        let c = parents-iff R U (T .roles) deny r .0 (a .2) .1 in
+        let u = overlaps-iff U (T .roles) (c .0) r .0 (c .3) in
+        (a .0, a .1, (c .0, c .1, (c .2, (u .0, u .1, (u .2, u .3))))),
+    λ w.
+        let c = w .2 in
+        let u = c .2 .1 in
+        has-shared-iff R may (parentsOf R U (T .roles) deny) r .1 (w .0, w .1, parents-iff R U (T .roles) deny r .1 (w .0, (c .0, c .1, c .2 .0, overlaps-iff U (T .roles) (c .0) r .1 (u .0, u .1, u .2 .0, u .2 .1)))),
+  )
+
+  -- the roles that may read a database of the set
+  pub readers-mean : (found r : ℕ) → (has (readersOf R D (T .readers) found) r ≡ true) ↔ ((r < R) × One D (λ d. (has found d ≡ true) × (mayRead T r d ≡ true)))
+  readers-mean found r = (
+    λ h. let b = readers-iff R D (T .readers) found r .0 h in (b .0, (b .1 .0, b .1 .1, (b .1 .2, b .1 .3))),
+    λ w. readers-iff R D (T .readers) found r .1 (w .0, (w .1 .0, w .1 .1, w .1 .2 .0, w .1 .2 .1)),
+  )
+
   role-set-means : (deny reach r : ℕ) → (has (roleSet R U D T deny reach) r ≡ true)
       ↔ ((r < R) × One D (λ d. (has reach d ≡ true) × (mayRead T r d ≡ true)) × One R (λ o. (has deny o ≡ true) × One U (λ u. (holds T u o ≡ true) × (holds T u r ≡ true))))
   unfolding roleSet
   role-set-means deny reach r = (
-    λ h.
-        let a = has-shared-iff R may parents r .0 h in
-        let b = readers-iff R D (T .readers) reach r .0 (a .1) .1 in
-        let c = parents-iff R U (T .roles) deny r .0 (a .2) .1 in
-        let u = overlaps-iff U (T .roles) (c .0) r .0 (c .3) in
-        (a .0, (b .0, b .1, (b .2, b .3)), (c .0, c .1, (c .2, (u .0, u .1, (u .2, u .3))))),
-    λ w.
-        let b = w .1 in
-        let c = w .2 in
-        let u = c .2 .1 in
-        has-shared-iff R may parents r .1 (
-          w .0,
-          readers-iff R D (T .readers) reach r .1 (w .0, (b .0, b .1, b .2 .0, b .2 .1)),
-          parents-iff R U (T .roles) deny r .1 (w .0, (c .0, c .1, c .2 .0, overlaps-iff U (T .roles) (c .0) r .1 (u .0, u .1, u .2 .0, u .2 .1))),
-        ),
+    λ h. let a = among-means (readersOf R D (T .readers) reach) deny r .0 h in (a .0, readers-mean reach r .0 (a .1) .1, a .2),
+    λ w. among-means (readersOf R D (T .readers) reach) deny r .1 (w .0, readers-mean reach r .1 (w .0, w .1), w .2),
   )
-    where
-      may : ℕ
-      may = readersOf R D (T .readers) reach
-
-      parents : ℕ
-      parents = parentsOf R U (T .roles) deny
 
 outside-means : (R chosen conflicting : ℕ) → (outside R chosen conflicting ≡ true) ↔ One R (λ r. (has chosen r ≡ true) × (has conflicting r ≡ false))
 unfolding outside
@@ -357,7 +360,7 @@ filled-from-0 : (p : ℕ → ℕ) (n : ℕ) (l : List ℕ) (i : ℕ) → n ≤ l
 filled-from-0 p n l i h k = let q : 0 + i ≡ i = omega arith in rw q at (getD-filled 0 p n l i (omega arith) k)
 
 pub show-means : (e : Engine) (p : Product) (s f : ℕ) → ShowMeans e p s f
-unfolding verdict answer step ask accepted askAnswer shownBy constraintAt
+unfolding verdict answer step ask accepted askAnswer shownBy shownAt constraintAt
 show-means e p s f = record {
   refused = λ why h. rw (h, refused-answer (show (e .sessions) (sessionAt p s) f) why h);
   granted = λ h. rw h (granted-answer e (Session p s (Show f)) h, refl, refl, λ g l. filled-from-0 (rolesetAt (e .sessions .rolesets) (sessionAt p s) f) flowCount (replicate flowCount 0) g (omega arith) l);

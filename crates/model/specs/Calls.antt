@@ -152,7 +152,7 @@ forward D counts d e =
 abbrev pub flowsIn : Sessions → ℕ → ℕ
 flowsIn S s = getD (S .counts) s 0
 
--- 06: rows 2, 3
+-- 06 and 0b: rows 2, 3
 unfoldable pub openSession : ℕ → Sessions → ℕ → Done Sessions
 openSession version S s =
     refuse (leb allSessions s) AboveLimit S
@@ -163,7 +163,7 @@ openSession version S s =
 unfoldable pub conflictsIn : Tables → Sessions → ℕ → ℕ → ℕ
 conflictsIn T S s new = conflicts roleCount userCount databaseCount T (suc (flowsIn S s)) (reachWith (S .reaches) s (flowsIn S s) new)
 
--- 07: rows 2, 6, 7
+-- 07 and 0c: rows 2, 6, 7
 unfoldable pub conflicting : Tables → Sessions → ℕ → ℕ → Answer
 conflicting T S s root =
     unless (leb allSessions s) AboveLimit
@@ -181,7 +181,7 @@ withFlow D S s root new deny =
     (set (S .versions) (place s n) (D .version)) (set (S .denies) (place s n) deny)
     (filled (setPlace s n 0) (λ g. roleSet roleCount userCount databaseCount (D .tables) deny (reachWith (S .reaches) s n new g)) flowCount (S .rolesets))
 
--- 08: rows 2, 6, 7, 8; a chosen role above its limit would make a number above 64 bits.
+-- 08 and 0d: rows 2, 6, 7, 8; a chosen role above its limit would make a number above 64 bits.
 -- "The flow's deny set is the previous flow's deny set (empty for flow 0) joined with the chosen set."
 unfoldable pub add : Directory → Sessions → ℕ → ℕ → ℕ → Done Sessions
 add D S s root chosen =
@@ -195,7 +195,7 @@ add D S s root chosen =
     (refuse (outside roleCount chosen (conflictsIn (D .tables) S s new)) NotConflicting S
     (done (Flow n (sizeOf databaseCount new) (D .version)) (withFlow D S s root new (joined roleCount (denyBefore (S .denies) s n) chosen))))))))
 
--- 0a: rows 2, 6, 10
+-- 0a and 0f: rows 2, 6, 10
 unfoldable pub show : Sessions → ℕ → ℕ → Answer
 show S s f =
     unless (leb allSessions s) AboveLimit
@@ -204,7 +204,7 @@ show S s f =
     (unless (leb (flowsIn S s) f) NoSuchFlow
     (Answer·Constraint s f))))
 
--- ---- 09, a read: rows 2, 6, 10 to 14
+-- ---- 09 and 0e, a read: rows 2, 6, 10 to 14
 
 -- "refused as linkable if u holds a role of f's deny set and u's roles meet at least two of f's role sets", by f's constraint
 unfoldable pub links : Sessions → ℕ → ℕ → ℕ → Bool
@@ -267,9 +267,13 @@ unfoldable pub constraintAt : Sessions → ℕ → ℕ → Constraint
 constraintAt S s f = record { version = getD (S .versions) (place s f) 0; deny = getD (S .denies) (place s f) 0; roles = filled 0 (rolesetAt (S .rolesets) s f) flowCount (replicate flowCount 0) }
 
 -- zero beside a refusal: "nothing but the number is returned"
-unfoldable pub shownBy : Engine → Product → ℕ → ℕ → Shown
-shownBy e p s f = record { answer = show (e .sessions) (sessionAt p s) f; constraint = shownConstraint (verdictOf (show (e .sessions) (sessionAt p s) f)) }
+unfoldable pub shownAt : Sessions → ℕ → ℕ → Shown
+shownAt S s f = record { answer = show S s f; constraint = shownConstraint (verdictOf (show S s f)) }
   where
     shownConstraint : Verdict → Constraint
-    shownConstraint Granted = constraintAt (e .sessions) (sessionAt p s) f
+    shownConstraint Granted = constraintAt S s f
     shownConstraint (Refused why) = record { version = 0; deny = 0; roles = replicate flowCount 0 }
+
+-- the same of a product's session, whose number is taken
+unfoldable pub shownBy : Engine → Product → ℕ → ℕ → Shown
+shownBy e p s f = shownAt (e .sessions) (sessionAt p s) f

@@ -6,4 +6,5 @@ pub mod Refusals
 pub mod Demands
 pub mod Meaning
 pub mod Lasting
+pub mod Steps
 pub mod Products

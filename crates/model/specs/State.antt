@@ -19,9 +19,12 @@ use Rattle.model.specs.Limits.{sessionCount, flowCount}
 
 -- ---- the sessions of both products
 
--- how many there are
+-- how many products there are, and how many sessions
+abbrev pub productCount : ℕ
+productCount = 2
+
 abbrev pub allSessions : ℕ
-allSessions = 2 * sessionCount
+allSessions = productCount * sessionCount
 
 -- the number among them of a product's first one
 unfoldable pub firstOf : Product → ℕ
@@ -94,9 +97,13 @@ unfoldable pub denyBefore : List ℕ → ℕ → ℕ → ℕ
 denyBefore denies s zero = 0
 denyBefore denies s (suc n) = getD denies (place s n) 0
 
+-- of the roles `may`, those that "are a parent of some role in the deny set"
+abbrev pub parentsAmong : ℕ → ℕ → List ℕ → ℕ → ℕ → ℕ
+parentsAmong R U roles may deny = shared R may (parentsOf R U roles deny)
+
 -- a role set: "the roles that may, at this addition, read a database in that flow's reach and are a parent of some role in the deny set"
 unfoldable pub roleSet : ℕ → ℕ → ℕ → Tables → ℕ → ℕ → ℕ
-roleSet R U D T deny reach = shared R (readersOf R D (T .readers) reach) (parentsOf R U (T .roles) deny)
+roleSet R U D T deny reach = parentsAmong R U (T .roles) (readersOf R D (T .readers) reach) deny
 
 -- "u holds a role of f's deny set and u's roles meet at least two of f's role sets": of R roles and F flows; `held` are u's roles
 unfoldable pub linkable : ℕ → ℕ → ℕ → ℕ → (ℕ → ℕ) → Bool

@@ -1,11 +1,9 @@
 // A read: checked and answered. Its session has here its number among those of both products.
 use model::Engine;
-use model::Refusal;
 use model::Verdict;
 use model::Version;
 use tables::lent;
 ghost use mathlib.Core.Path.{_≡_};
-ghost use mathlib.Core.Bool.{cond};
 ghost use mathlib.Core.List.{List};
 ghost use Prim.Native.Nat.{ℕ, _<_, _+_, _*_};
 ghost use lib.ListN.{getD};
@@ -13,8 +11,7 @@ ghost use Rattle.tables.specs.Tables.{roleCount};
 ghost use Rattle.model.specs.Limits.{flowCount};
 ghost use Rattle.model.specs.State.{placeCount};
 ghost use Rattle.model.specs.State.{tablesOf, directoryOf, sessionsOf, linkable};
-ghost use Rattle.model.specs.Calls.{returned, bar, read};
-ghost use Rattle.reading.specs.Numbers.{verdictBy};
+ghost use Rattle.model.specs.Calls.{returned, read};
 
 // Whether these roles meet the deny set and two of the role sets of the flow at this place. All of
 // its role sets are looked at: a branch that leaves early costs more than they do.
@@ -33,28 +30,8 @@ fn links(rolesets: &[u64; Engine::ROLE_SETS], deny: u64, held: u64, at: usize) -
     sets::meets(held, deny) & (2 <= met)
 }
 
-// A number where its row is met, or a later one: too little to branch for.
-fn pick(met: bool, number: u64, later: u64) -> u64
-    ensures { λ n. ⌜ n ≡ cond met number later ⌝ }
-{
-    if met {
-        return number;
-    }
-    later
-}
-
-// The number of the first of rows 11 to 14 that is met, and 0 where none is.
-fn first_of(out_of_reach: bool, no_permission: bool, changed: bool, linkable: bool) -> u64
-    ensures { λ n. ⌜ n ≡ returned (bar «out_of_reach» Refusal.OutOfReach (bar «no_permission» Refusal.NoPermission (bar changed Refusal.Changed (bar linkable Refusal.Linkable Verdict.Granted)))) ⌝ }
-{
-    let row14 = pick(linkable, 14, 0);
-    let row13 = pick(changed, 13, row14);
-    let row12 = pick(no_permission, 12, row13);
-    pick(out_of_reach, 11, row12)
-}
-
-// 09: user u reads flow f of session s at database d. The answer is its number, 0 where the read is
-// granted. The last four tests are all made, with no branch between them: mispredicted branches cost
+// 09 and 0e: user u reads flow f of session s at database d. The answer is its number, 0 where the read
+// is granted. The last four tests are all made, with no branch between them: mispredicted branches cost
 // a read more than the tests do.
 pub fn number<'a>(
     roles: &'a [u64; Engine::USERS],
@@ -97,31 +74,7 @@ pub fn number<'a>(
     let no_permission = !sets::meets(held, lent::row(readers, d));
     let changed = versions[at] < users[u];
     let linkable = links(rolesets, denies[at], held, at);
-    first_of(out_of_reach, no_permission, changed, linkable)
-}
-
-// The verdict that has this number.
-fn verdict_by(number: u64) -> Verdict
-    ensures { λ v. ⌜ v ≡ verdictBy number ⌝ }
-{
-    match number {
-        0 => Verdict::Granted,
-        1 => Verdict::Refused(Refusal::Malformed),
-        2 => Verdict::Refused(Refusal::AboveLimit),
-        3 => Verdict::Refused(Refusal::AlreadyThere),
-        4 => Verdict::Refused(Refusal::NotThere),
-        5 => Verdict::Refused(Refusal::FlowAdded),
-        6 => Verdict::Refused(Refusal::NotOpen),
-        7 => Verdict::Refused(Refusal::SessionFull),
-        8 => Verdict::Refused(Refusal::NotConflicting),
-        9 => Verdict::Refused(Refusal::VersionsSpent),
-        10 => Verdict::Refused(Refusal::NoSuchFlow),
-        11 => Verdict::Refused(Refusal::OutOfReach),
-        12 => Verdict::Refused(Refusal::NoPermission),
-        13 => Verdict::Refused(Refusal::Changed),
-        14 => Verdict::Refused(Refusal::Linkable),
-        15..=u64::MAX => Verdict::Refused(Refusal::Malformed),
-    }
+    verdict::first_of(out_of_reach, no_permission, changed, linkable)
 }
 
 // The same read, answered as document 01 has it: granted, or refused with its row.
@@ -142,7 +95,7 @@ pub fn read<'a>(
 ) -> Verdict
     ensures { λ v. ⌜ ((forwards : List ℕ) (version : ℕ) (roots : List ℕ) → v ≡ read (directoryOf (tablesOf (now (roles .entry)) (now (readers .entry)) forwards) (now (users .entry)) version) (sessionsOf opened (now (counts .entry)) roots (now (reaches .entry)) (now (versions .entry)) (now (denies .entry)) (now (rolesets .entry))) u s f d) ⌝ }
 {
-    verdict_by(number(
+    verdict::verdict_by(number(
         roles,
         readers,
         users,

@@ -1,56 +1,12 @@
 // The search for conflicting roles, which a query answers and an addition looks at.
 //
-// Every public function answers for any numbers: above its limit nothing is there. A session has here
-// its number among those of both products.
+// Every public function answers for any numbers.
 use model::Engine;
 use tables::lent;
 ghost use mathlib.Core.Path.{_≡_};
-ghost use Prim.Native.Nat.{_<_};
 ghost use Rattle.tables.specs.Tables.{roleCount};
-ghost use Rattle.model.specs.Limits.{flowCount};
-ghost use Rattle.model.specs.State.{allSessions, reachWith, outside};
-ghost use Rattle.search.specs.Search.{readersByFlow, conflictsOf};
-
-// The reach of flow g of session s, which has n flows, with a new one counted in as the next one;
-// empty where there is no such flow.
-fn reach_with(reaches: &[u64; Engine::PLACES], s: usize, n: usize, new: u64, g: usize) -> u64
-    requires { ⌜ s < allSessions ⌝ }
-    requires { ⌜ g < flowCount ⌝ }
-    ensures { λ r. ⌜ r ≡ reachWith (now (reaches .entry)) s n new g ⌝ }
-{
-    if g < n {
-        return reaches[s * Engine::FLOWS + g];
-    }
-    if g == n {
-        return new;
-    }
-    0
-}
-
-// The roles that may read a database in the reach of each flow of session s, with a new one counted
-// in; nobody where there is no such session. (A slice of reaches in place of their array costs a tenth
-// of the time of a mixed list.)
-pub fn readers_by_flow<'a>(
-    readers: &'a [u64; Engine::DATABASES],
-    reaches: &'a [u64; Engine::PLACES],
-    s: usize,
-    n: usize,
-    new: u64,
-) -> [u64; Engine::FLOWS]
-    ensures { λ r. ⌜ r ≡ readersByFlow (now (readers .entry)) (now (reaches .entry)) s n new ⌝ }
-{
-    let mut may = [0u64; Engine::FLOWS];
-    if Engine::ALL_SESSIONS <= s {
-        return may;
-    }
-    let mut g = 0usize;
-    while g < Engine::FLOWS {
-        let x = lent::readers(readers, reach_with(reaches, s, n, new, g));
-        may[g] = x;
-        g += 1;
-    }
-    may
-}
+ghost use Rattle.model.specs.State.{outside};
+ghost use Rattle.search.specs.Search.{conflictsOf};
 
 // The roles of the users whose roles meet two of the first n sets, of which those past the last one
 // are empty and not looked at. The search through the flows ends at the second one found. A user

@@ -5,28 +5,15 @@ use model::Ask;
 use model::Call;
 use model::Change;
 use model::Engine;
-use model::Product;
 use model::Refusal;
 use model::Verdict;
 use model::Version;
+pub use sessions::session_at;
 ghost use mathlib.Core.Path.{_≡_};
 ghost use mathlib.Core.List.{List};
 ghost use Prim.Native.Nat.{ℕ};
-ghost use Rattle.model.specs.State.{sessionAt, tablesOf, directoryOf, sessionsOf, engineOf};
+ghost use Rattle.model.specs.State.{tablesOf, directoryOf, sessionsOf, engineOf};
 ghost use Rattle.model.specs.Calls.{done, answerOf, change, ask, step};
-
-// The number of a product's session among those of both; past them all where it is above its limit.
-pub fn session_at(product: Product, session: usize) -> usize
-    ensures { λ r. ⌜ r ≡ sessionAt product session ⌝ }
-{
-    if Engine::SESSIONS <= session {
-        return Engine::ALL_SESSIONS;
-    }
-    match product {
-        Product::Server => session,
-        Product::TermBank => Engine::SESSIONS + session,
-    }
-}
 
 // The verdict on a read as an answer.
 fn answer_of(v: Verdict) -> Answer

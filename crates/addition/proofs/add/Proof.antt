@@ -35,13 +35,17 @@ returns-4 c users =
     let start = test1 .before in
     full _ _ _ users _ _ _ _ _ _ _ _ _ _ _ (lt-leb _ _ (test1 .if1 .left)) (lt-leb _ _ (test2 .if2 .left)) (lt-leb _ _ (start .fits .chosen .fits)) (ap not (sym (at-contains .contains .ensures)) ∙ test3 .if3 .left) (le-leb _ _ (c .if4 .taken))
 
+-- the place of the first step, from that of the second
+abbrev first-step : tie.After-roles-by-flow → tie.After-databases
+first-step c = c .before .before
+
 returns-5 : tie.Need-returns-5
 returns-5 c users =
     let at-outside = c .before in
     let at-conflicts = at-outside .before in
-    let at-readers-by-flow = at-conflicts .before .before in
-    let at-reach = at-readers-by-flow .before .before in
-    let test4 = at-reach .before in
+    let at-roles-by-flow = at-conflicts .before .before in
+    let at-databases = first-step at-roles-by-flow in
+    let test4 = at-databases .before in
     let test3 = test4 .before .before in
     let at-contains = test3 .before in
     let test2 = at-contains .before in
@@ -54,23 +58,23 @@ returns-5 c users =
     _ _ _
     (ap not (sym (at-contains .contains .ensures)) ∙ test3 .if3 .left)
     (test4 .if4 .left)
-    (at-reach .reach .ensures)
-    (at-readers-by-flow .readers-by-flow .ensures)
+    (at-databases .databases .ensures)
+    (at-roles-by-flow .roles-by-flow .ensures)
     (at-conflicts .conflicts .ensures)
     (sym (at-outside .outside .ensures) ∙ c .if5 .taken)
 
 returns-6 : tie.Need-returns-6
 returns-6 c users =
     let at-put-sets = c .before in
-    let at-parents = at-put-sets .before .before .before in
-    let at-union = at-parents .before in
+    let at-overlapping-roles = at-put-sets .before .before .before in
+    let at-union = at-overlapping-roles .before .before in
     let at-deny-before = at-union .before in
     let test5 = at-deny-before .before .before in
     let at-outside = test5 .before in
     let at-conflicts = at-outside .before in
-    let at-readers-by-flow = at-conflicts .before .before in
-    let at-reach = at-readers-by-flow .before .before in
-    let test4 = at-reach .before in
+    let at-roles-by-flow = at-conflicts .before .before in
+    let at-databases = first-step at-roles-by-flow in
+    let test4 = at-databases .before in
     let test3 = test4 .before .before in
     let at-contains = test3 .before in
     let test2 = at-contains .before in
@@ -82,13 +86,13 @@ returns-6 c users =
     (lt-leb _ _ (start .fits .chosen .fits))
     (ap not (sym (at-contains .contains .ensures)) ∙ test3 .if3 .left)
     (test4 .if4 .left)
-    (at-reach .reach .ensures)
-    (at-readers-by-flow .readers-by-flow .ensures)
+    (at-databases .databases .ensures)
+    (at-roles-by-flow .roles-by-flow .ensures)
     (at-conflicts .conflicts .ensures)
     (sym (at-outside .outside .ensures) ∙ test5 .if5 .left)
     (at-deny-before .deny-before .ensures)
     (at-union .union .ensures)
-    (at-parents .parents .ensures)
+    (at-overlapping-roles .overlapping-roles .ensures)
     (at-put-sets .put-sets .ensures)
     (c .size .ensures)
 

@@ -1,9 +1,11 @@
 use mathlib.Core.Path.{sym, ap, _∙_}
 use mathlib.Core.Bool.{not}
+use native.Mathlib.Omega.{arith}
 use borrow.Author.Needs.{needs}
 use borrow.Author.Tests.{le-leb, lt-leb}
 use Rattle.model.specs.Calls.{conflictsIn, conflicting}
-use Rattle.search.proofs.ByFlow.{conflicts-found}
+use Rattle.graph.proofs.ByFlow.{roles-at}
+use Rattle.search.proofs.ByFlow.{conflicts-by-flow}
 use Rattle.sessions.proofs.conflicting.Statement.{statement}
 use Rattle.sessions.proofs.conflicting.Tie as tie
 
@@ -38,9 +40,9 @@ returns-4 c roots versions denies rolesets =
 returns-5 : tie.Need-returns-5
 unfolding conflicting conflictsIn
 returns-5 c roots versions denies rolesets =
-    let at-readers-by-flow = c .before .before in
-    let at-reach = at-readers-by-flow .before in
-    let test4 = at-reach .before in
+    let at-roles-by-flow = c .before .before in
+    let at-databases = at-roles-by-flow .before in
+    let test4 = at-databases .before in
     let test3 = test4 .before .before in
     let at-contains = test3 .before in
     let test2 = at-contains .before in
@@ -50,7 +52,8 @@ returns-5 c roots versions denies rolesets =
       lt-leb _ _ (test2 .if2 .left),
       ap not (sym (at-contains .contains .ensures)) ∙ test3 .if3 .left,
       lt-leb _ _ (test4 .if4 .left),
-      conflicts-found _ _ _ _ _ _ _ _ _ (lt-leb _ _ (test1 .if1 .left)) (at-reach .reach .ensures) (at-readers-by-flow .readers-by-flow .ensures) _ (test4 .if4 .left) (c .conflicts .ensures),
+      c .conflicts .ensures
+          ∙ conflicts-by-flow _ _ (test1 .before .args .forwards .now) _ _ _ (λ g l. roles-at _ _ _ _ _ _ _ _ (lt-leb _ _ (test1 .if1 .left)) (at-databases .databases .ensures) (at-roles-by-flow .roles-by-flow .ensures) g (omega (arith, test4 .if4 .left))),
     )
 
 pub conflicting-spec : {M : Type 1} → statement M
