@@ -12,6 +12,8 @@ kind, each in four forms:
                 the last forwarding, once for each
 The exchanged list has the same answers.  In the others each line that is kept
 has the answer that it had; what is put in another order is not asked about.
+Kinds 01 to 05 and 10 are no product's: but for forwarding behind the first
+flow they are kept.
 From the root of the repository:
     reference/apart.py target/bin/linkage
     reference/apart.py "python3 reference/generate.py answers"

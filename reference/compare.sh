@@ -43,12 +43,14 @@ else:       # odd and even in turn: lists of kinds versions and turns differ by 
 counts = {k: {} for k in KINDS}
 differ = 0
 
-# Whose frames: 01 to 05 are of the tables, 06 to 0a the server's, 0b to 0f the
-# term bank's.  A line counts by its first two digits, malformed or not.
+# Whose frames: 01 to 05 and 10 are of the tables, 06 to 0a the server's, 0b to
+# 0f the term bank's.  A line counts by its first two digits, malformed or not.
+ROWS = 15
 OWNERS = ["tables", "server", "bank", "no kind"]
-POSSIBLE = {"tables": {0, 1, 2, 3, 4, 5, 9}, "no kind": {1}}
+POSSIBLE = {"tables": {0, 1, 2, 3, 4, 5, 9, 15}, "no kind": {1}}
 POSSIBLE["server"] = POSSIBLE["bank"] = {0, 1, 2, 3, 6, 7, 8, 10, 11, 12, 13, 14}
 OWNER = {b"%02x" % k: OWNERS[(k - 1) // 5] for k in range(1, 16)}
+OWNER[b"10"] = "tables"
 owned = {x: {} for x in ("stored", "fresh")}
 
 
@@ -178,13 +180,13 @@ for kind in KINDS:
         sys.stdout.flush()
 
 print("\nanswer" + "".join("%10s" % k for k in KINDS) + "%10s" % "all")
-for n in range(15):
+for n in range(ROWS + 1):
     row = [counts[k].get("%02x" % n, 0) for k in KINDS]
     print("%02x    " % n + "".join("%10d" % x for x in row) + "%10d" % sum(row)
           + ("" if sum(row) else "   not reached"))
 for where, table in owned.items():
     print("\n%-6s" % where + "".join("%10s" % x for x in OWNERS))
-    for n in range(15):
+    for n in range(ROWS + 1):
         print("%02x    " % n + "".join(
             "%10s" % (table.get((x, n), 0) if n in POSSIBLE[x] else ".") for x in OWNERS)
             + "".join("   not reached: " + x for x in OWNERS

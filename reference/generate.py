@@ -1,8 +1,10 @@
 #!/usr/bin/env python3
-"""Lists of frames for the linkage engine of document 01 with request K1.
+"""Lists of frames for the linkage engine of document 01 with requests K1 and K3.
 
     generate.py KIND SEED LINES > list      a list, the same for the same seed
     generate.py answers < list > answers    the answers of the model below
+    generate.py mandates < list             how many reads under a mandate it has,
+                                            by the row they would meet without it
 
 KIND is one of
     mixed     all calls; deep states, chosen sets that conflict, every verdict
@@ -15,7 +17,8 @@ KIND is one of
 
 In all of them about half of the frames about sessions are the term bank's.
 In mixed and reads the product is drawn for each frame, so that no program can
-learn the order.
+learn the order.  In reads there are no mandates, in the others only a few:
+none is ever lifted, and with many most reads would be granted.
 
 A list has LINES lines, or more where the kind needs them: a list of kind
 edges has some 1500 at least, one of kind versions some 66600, one of kind
@@ -49,6 +52,7 @@ class Engine:
         self.holds = set()          # (user, role)
         self.may_read = set()       # (role, database)
         self.forwards = set()       # (database, database)
+        self.mandates = set()       # (role, database)
         self.system = 0
         self.version = {u: 0 for u in range(USERS)}
         self.sessions = {}          # (product, number): list of flows
@@ -92,6 +96,10 @@ class Engine:
     def parent(self, r, o):
         """r is a parent of o: some user holds both."""
         return any((u, r) in self.holds and (u, o) in self.holds for u in self.holders(r))
+
+    def under_mandate(self, u, d):
+        """K3: u holds a role with a mandate at d."""
+        return any(e == d and (u, r) in self.holds for (r, e) in self.mandates)
 
     # Calls.  Each returns (number, answer); checks in the order of the rows.
     # Those about sessions are told the product first.
@@ -143,12 +151,24 @@ class Engine:
             return 2, ""
         if (r, d) not in self.may_read:
             return 4, ""
+        if (r, d) in self.mandates:
+            return 15, ""
         who = self.holders(r)
         if who and self.system == LAST_VERSION:
             return 9, ""
         self.may_read.remove((r, d))
         if who:
             self.new_version(who)
+        return self.done()
+
+    def mandate(self, r, d):
+        if r >= ROLES or d >= DATABASES:
+            return 2, ""
+        if (r, d) in self.mandates:
+            return 3, ""
+        if (r, d) not in self.may_read:
+            return 4, ""
+        self.mandates.add((r, d))
         return self.done()
 
     def forward(self, d, e):
@@ -197,6 +217,12 @@ class Engine:
         return 0, "%02x%02x%04x" % (len(flows) - 1, len(reaches[-1]), self.system)
 
     def read(self, product, u, s, f, d):
+        """K3: under a mandate 13 and 14 are passed, and no row is left after them."""
+        row = self.free_read(product, u, s, f, d)
+        return 0 if row in (13, 14) and self.under_mandate(u, d) else row
+
+    def free_read(self, product, u, s, f, d):
+        """The read as document 01 has it, without mandates."""
         if s >= SESSIONS or f >= FLOWS or d >= DATABASES:
             return 2
         if (product, s) not in self.sessions:
@@ -212,10 +238,12 @@ class Engine:
             return 12
         if self.version[u] > flow.version:
             return 13
-        if (any(r in flow.deny for r in held)
-                and len([x for x in flow.role_sets if any(r in x for r in held)]) >= 2):
-            return 14
-        return 0
+        return 14 if self.linkable(u, flow) else 0
+
+    def linkable(self, u, flow):
+        held = self.roles(u)
+        return (any(r in flow.deny for r in held)
+                and len([x for x in flow.role_sets if any(r in x for r in held)]) >= 2)
 
     def show(self, product, s, f):
         if s >= SESSIONS or f >= FLOWS:
@@ -238,7 +266,7 @@ class Engine:
     FRAMES = {
         "01": (assign, None, 2, False), "02": (withdraw, None, 2, False),
         "03": (permit, None, 2, False), "04": (revoke, None, 2, False),
-        "05": (forward, None, 2, False),
+        "05": (forward, None, 2, False), "10": (mandate, None, 2, False),
         "06": (open, SERVER, 1, False), "0b": (open, BANK, 1, False),
         "07": (query, SERVER, 2, False), "0c": (query, BANK, 2, False),
         "08": (add, SERVER, 2, True), "0d": (add, BANK, 2, True),
@@ -281,6 +309,26 @@ def answers():
         print("01")
 
 
+def mandates():
+    """Counts the reads under a mandate in a list, by product."""
+    engine, table = Engine(), {}
+    rows = [2, 6, 10, 11, 12, "13 alone", "14 alone", "13 and 14", "none"]
+    for line in sys.stdin.buffer.read().split(b"\n")[:-1]:
+        if engine.answer(line) != "01" and line[:2] in (b"09", b"0e"):
+            product = SERVER if line[:2] == b"09" else BANK
+            u, s, f, d = (int(line[i:i + 2], 16) for i in (2, 4, 6, 8))
+            if engine.under_mandate(u, d):
+                row = engine.free_read(product, u, s, f, d)
+                if row == 13:
+                    linkable = engine.linkable(u, engine.sessions[product, s][f])
+                    row = "13 and 14" if linkable else "13 alone"
+                row = {0: "none", 14: "14 alone"}.get(row, row)
+                table[product, row] = table.get((product, row), 0) + 1
+    print("without it" + "".join("%10s" % p for p in PRODUCTS))
+    for row in rows:
+        print("%-10s" % row + "".join("%10d" % table.get((p, row), 0) for p in PRODUCTS))
+
+
 # ------------------------------------------------------------------ frames
 
 def frame(kind, *fields):
@@ -303,6 +351,9 @@ class List:
         # Only random() is used: its stream is the same for all versions of Python.
         self.random = random.Random("%s %s" % (kind, seed)).random
         self.engine = Engine()
+        # Without kind 10 the lists of reads are those of before K3, and their
+        # times can be compared.
+        self.last_kind = 15 if kind == "reads" else 16
         self.wanted = lines
         self.count = 0
         self.parts = []
@@ -367,13 +418,13 @@ class List:
     # Malformed lines.
 
     def any_frame(self):
-        kind = self.between(1, 15)
+        kind = self.between(1, self.last_kind)
         fields = {6: 1, 8: 10, 9: 4, 11: 1, 13: 10, 14: 4}.get(kind, 2)
         return frame(kind, *[self.below(256) for _ in range(fields)])
 
     def small_frame(self):
         """A frame that may well be accepted."""
-        kind = self.between(1, 15)
+        kind = self.between(1, self.last_kind)
         if kind in (8, 13):
             return frame(kind, self.below(4), self.below(8)) + role_set([])
         fields = {6: 1, 9: 4, 11: 1, 14: 4}.get(kind, 2)
@@ -401,9 +452,10 @@ class List:
         if how == 7:
             return good + self.pick([" ", "\0", "\t", "\0\0"])
         if how == 8:                                        # unknown kind
-            return self.pick(["00", "10", "11", "1a", "1b", "1f", "80", "a0", "e0", "ff"]) + good[2:]
+            return self.pick(["00", "12", "11", "1a", "1b", "1f", "80", "a0", "e0", "ff"]) + good[2:]
         if how == 9:                                        # the length of another kind
-            return "%02x" % self.between(1, 15) + self.any_frame()[2:] + self.pick(["", "00"])
+            kind = "%02x" % self.between(1, self.last_kind)
+            return kind + self.any_frame()[2:] + self.pick(["", "00"])
         if how == 10:                                       # overlong
             return good + "0" * self.pick([1, 2, 13, 16, 23, 64, 300])
         return good[:at] + " " + good[at:]
@@ -430,7 +482,10 @@ class World(List):
         # Of each product: its flows (session, flow number, reach), and reads by
         # their verdict.
         self.flows = {p: [] for p in PRODUCTS}
-        self.pool = {p: {n: [] for n in (0, 11, 12, 13, 14)} for p in PRODUCTS}
+        self.pool = {p: {n: [] for n in (0, 11, 12, 13, 14, "passes 13", "passes 14")}
+                     for p in PRODUCTS}
+        # How many mandates there may be at the end.
+        self.duties = self.between(6, 9) if self.last_kind == 16 else 0
 
     # Set-up.
 
@@ -480,6 +535,53 @@ class World(List):
                 r = self.pick([q for q in self.roles_all if (u, q) not in e.holds] or [r]) \
                     if not steady else r
         return frame(kind, u, r) if kind <= 2 else frame(kind, r, d)
+
+    # Mandates.
+
+    def early_duties(self, frames):
+        """The frames with some mandates put among them, before or behind the
+        permission."""
+        pairs = [f[2:] for f in frames if f[:2] == "03"]
+        frames = list(frames)
+        for pair in self.some(pairs, 2):
+            for _ in range(2):
+                frames.insert(self.below(len(frames) + 1), "10" + pair)
+        return frames
+
+    def duty(self):
+        """A mandate that is refused, or a revocation under a mandate.  One that
+        is accepted, if it is time for one."""
+        e = self.engine
+        if len(e.mandates) < self.duties * self.progress():
+            return frame(16, *self.pick(self.dutiful() or [(0, 0)]))
+        r, d = self.pick(self.roles_all), self.pick(self.databases)
+        way = self.weighted([(1, 2), (2, 3), (2, 4), (4, 15)])
+        if way == 2:
+            r, d = self.pick([(r, 64 + self.below(192)), (64 + self.below(192), d)])
+        elif way == 4:
+            while (r, d) in e.may_read:
+                r, d = self.below(ROLES), self.below(DATABASES)
+        elif e.mandates:
+            r, d = self.pick(sorted(e.mandates))
+        else:
+            r, d = self.pick([(64, d), (r, 64)])
+        return frame(4 if way == 15 else 16, r, d)
+
+    def dutiful(self):
+        """Pairs that may get a mandate: mostly such that a read which is refused
+        now would pass."""
+        e = self.engine
+        p, row = self.product(), self.pick([13, 14])
+        stock = [x for x in self.pool[p][row] if e.read(p, *x) == row]
+        if stock and self.chance(0.7):
+            u, _, _, d = self.pick(stock)
+            return [(r, d) for r in sorted(e.roles(u)) if (r, d) in e.may_read]
+        return sorted(e.may_read - e.mandates)
+
+    def verdict(self, p, x):
+        """The number answered to a read; told apart if it passes by a mandate."""
+        row, free = self.engine.read(p, *x), self.engine.free_read(p, *x)
+        return row if row == free else "passes %d" % free
 
     # Sessions and flows, each of one product.
 
@@ -611,18 +713,19 @@ class World(List):
         u = self.pick(self.steady_users if self.chance(0.8) else self.other_users) \
             if self.chance(0.95) else self.below(USERS)
         d = self.pick(reach) if self.chance(0.9) else self.below(DATABASES)
-        pool = self.pool[p][self.engine.read(p, u, s, f, d)]
+        pool = self.pool[p][self.verdict(p, (u, s, f, d))]
         if len(pool) < 200:
             pool.append((u, s, f, d))
         else:
             pool[self.below(200)] = (u, s, f, d)
-        wanted = self.weighted([(34, 0), (26, 14), (15, 13), (15, 12), (10, 11)])
+        wanted = self.weighted([(34, 0), (26, 14), (15, 13), (15, 12), (10, 11)]
+                               + [(3, "passes 13"), (3, "passes 14")] * bool(self.engine.mandates))
         for _ in range(3):
             stock = self.pool[p][wanted]
             if not stock:
                 break
             i = self.below(len(stock))
-            if self.engine.read(p, *stock[i]) == wanted:
+            if self.verdict(p, stock[i]) == wanted:
                 u, s, f, d = stock[i]
                 break
             stock[i] = stock[-1]            # the tables have changed since
@@ -655,6 +758,29 @@ class World(List):
             self.line(frame(1, u, role))
             tour()
 
+    def duty_story(self, p):
+        """A user's reads at a database before and after a role with a mandate
+        there is withdrawn, and after it came back."""
+        stock = [x for n in ("passes 13", "passes 14") for x in self.pool[p][n]
+                 if self.verdict(p, x) == n]
+        if not stock:
+            return
+        u, s, f, d = self.pick(stock)
+        roles = [r for r in sorted(self.engine.roles(u)) if (r, d) in self.engine.mandates]
+
+        def tour():
+            for q in self.some(PRODUCTS, 2):
+                self.quiet(ask(q, 9, u, s, f, d))
+
+        tour()
+        self.line(frame(4, self.pick(roles), d))
+        for r in roles:
+            self.line(frame(2, u, r))
+            tour()
+        for r in self.some(roles, len(roles)):
+            self.line(frame(1, u, r))
+            tour()
+
     # Versions.
 
     def toggle(self):
@@ -663,18 +789,20 @@ class World(List):
         if not held:
             return self.change()
         r, d = self.pick(held), self.pick(self.databases)
+        if (r, d) in self.engine.mandates:
+            return self.change()
         return frame(4 if (r, d) in self.engine.may_read else 3, r, d)
 
 
 def mixed(seed, lines):
     w = World("mixed", seed, lines)
-    frames = w.set_up()[:max(10, lines // 4)]
+    frames = w.early_duties(w.set_up()[:max(10, lines // 4)])
     for i, f in enumerate(frames):
         w.line(f)
         if w.chance(0.08):
             w.line(w.pick(frames[:i + 1]))              # the pair is there already
         if w.chance(0.04):
-            w.line(w.pick(["05", "03", "01"]) + "%02x%02x" % (w.below(80), w.below(80)))
+            w.line(w.pick(["05", "03", "01", "10"]) + "%02x%02x" % (w.below(80), w.below(80)))
         if w.chance(0.03):
             w.line(w.malformed())
         if w.chance(0.03):
@@ -690,6 +818,8 @@ def mixed(seed, lines):
     while w.more():
         if w.chance(min(0.006, 60 / max(1, lines))):
             w.story(w.product())
+        if w.chance(min(0.003, 60 / max(1, lines))):
+            w.duty_story(w.product())
         for p in w.some([p for p in PRODUCTS if len(w.flows[p]) < additions * w.progress()], 2):
             if w.closed(p) and (not w.growing(p) or len(w.opened(p)) < 14 * w.progress()):
                 w.line(ask(p, 6, w.pick(w.closed(p))))
@@ -702,7 +832,8 @@ def mixed(seed, lines):
         if lines >= 150000 and 0 < missing and (0.97 * lines - w.count) / 2 <= missing:
             w.line(w.toggle())
         call = w.weighted([(45, "read"), (changes, "change"), (5, "query"), (5, "add"),
-                           (5, "show"), (2, "forward"), (1.5, "open"), (4, "malformed")])
+                           (5, "show"), (2, "forward"), (1.5, "open"), (4, "malformed"),
+                           (3, "duty")])
         p = w.product()
         if call == "read":
             w.read(p, 0.12)
@@ -720,6 +851,8 @@ def mixed(seed, lines):
         elif call == "open":
             s = w.pick(w.opened(p)) if w.opened(p) and w.chance(0.7) else 16 + w.below(240)
             w.line(ask(p, 6, s))
+        elif call == "duty":
+            w.line(w.duty())
         else:
             w.line(w.malformed())
     w.flush()
@@ -767,7 +900,7 @@ def edges(seed, lines):
     top = [0x3f, 0x40, 0x41, 0x7f, 0x80, 0xff]
 
     # Malformed lines, on a fresh engine.
-    good = ["010000", "020000", "030000", "040000", "050000"]
+    good = ["010000", "020000", "030000", "040000", "050000", "100000"]
     for p in PRODUCTS:
         good += [ask(p, 6, 0), ask(p, 7, 0, 0), frame_add(p, 0, 0, []), ask(p, 9, 0, 0, 0, 0),
                  ask(p, 10, 0, 0)]
@@ -780,15 +913,16 @@ def edges(seed, lines):
                     "\x80" + g[1:], "0" + "\x00" + g[2:], g + g, g + "\t" + g):
             w.line(bad)
     for bad in ("", "\r", "\0", " ", "0", "00", "0b", "0f", "0A", "0A0000", "0B00", "0F0000",
-                "000000", "0b0000", "0f00", "1000", "100000", "1a0000", "a00000", "ff0000", "0x0600",
-                "\xef\xbb\xbf0600", "0" * 1000, "f" * 65535, "06" * 40000, "\0" * 70000):
+                "000000", "0b0000", "0f00", "10", "1000", "10000000", "1100", "110000", "1a0000",
+                "a00000", "ff0000", "0x0600", "\xef\xbb\xbf0600", "0" * 1000, "f" * 65535,
+                "06" * 40000, "\0" * 70000):
         w.line(bad)
 
     # Row 2 on a fresh engine: limits before everything else.
     for x in top:
         for kind in (1, 2):
             w.line(frame(kind, 255, x))
-        for kind in (3, 4):
+        for kind in (3, 4, 16):
             w.line(frame(kind, x, 0x40))
             w.line(frame(kind, 0x40, x))
         w.line(frame(5, x, 0x40))
@@ -819,11 +953,17 @@ def edges(seed, lines):
     for r in (0, 0x3f, 0x40):
         for d in (0, 0x3f, 0x40):
             w.line(frame(4, r, d))
+            w.line(frame(16, r, d))
             w.line(frame(3, r, d))
             w.line(frame(3, r, d))
     w.line(frame(3, 9, 9))                              # nobody holds role 9
     w.line(frame(4, 9, 9))
     w.line(frame(4, 9, 9))
+    for x in (0x3e, 0x3e, 0x40):                        # nor role 3e
+        w.line(frame(16, x, 0x3e))
+        w.line(frame(3, x, 0x3e))
+        w.line(frame(16, x, 0x3e))
+        w.line(frame(4, x, 0x3e))
 
     # A chain through all 64 databases, in an order of the seed's; the reach of
     # its first is 64, of its last 1 or, by forwarding to itself, still 1.
@@ -879,6 +1019,17 @@ def edges(seed, lines):
             w.line(frame_add(p, s, 0x40, []))
             w.line(frame_add(p, s, 0, range(64)))
 
+    # A mandate at the limits.  Reads at its database pass from now on, those
+    # at the others don't.
+    r, d = w.pick([0, 0x3f]), w.pick([0, 0x3f])
+    for kind in (16, 16, 4, 3):
+        w.line(frame(kind, r, d))
+    for s in (0, 15):
+        for f in range(9):
+            for p in order:
+                w.line(ask(p, 9, w.pick([0, 255]), s, f, d))
+                w.line(ask(p, 9, w.pick([0, 255]), s, f, 0x3f - d))
+
     # Lines at the limits by chance.
     values = [0, 1, 0x3e, 0x3f, 0x40, 0x41, 0x7f, 0x80, 0xff]
     users, sessions, flows = [0, 1, 7, 255], [0, 0, 1, 2, 14, 15, 15, 16, 17, 255], [0, 1, 6, 7, 8, 9, 255]
@@ -886,13 +1037,18 @@ def edges(seed, lines):
     databases = [0, 0, 1, 0x3e, 0x3f, 0x3f, 0x40, 0xff] + chain[:2] + chain[-2:]
     while w.more():
         kind = w.weighted([(3, 1), (3, 2), (2, 3), (2, 4), (1, 5), (0.5, 6), (2, 7), (2, 8),
-                           (8, 9), (3, 10), (2, 0), (1, 99)])
+                           (8, 9), (3, 10), (2, 0), (1, 99), (1, 16)])
         p, u, s, f = w.product(), w.pick(users), w.pick(sessions), w.pick(flows)
         r, d = w.pick(roles), w.pick(databases)
         if kind in (1, 2):
             w.line(frame(kind, u, r))
         elif kind in (3, 4):
             w.line(frame(kind, r, d))
+        elif kind == 16:
+            # A fourth only by chance, so that other permissions can be revoked.
+            if (r, d) in w.engine.may_read and len(w.engine.mandates) >= 3:
+                r, d = w.pick(sorted(w.engine.mandates))
+            w.line(frame(w.pick([16, 16, 4]), r, d))
         elif kind == 5:
             w.line(frame(5, d, w.pick(databases)))
         elif kind == 6:
@@ -911,7 +1067,7 @@ def edges(seed, lines):
         elif kind == 0:
             w.line(w.malformed())
         else:
-            w.line(frame(w.between(1, 15), *[w.pick(values) for _ in range(w.pick([1, 2, 4]))]))
+            w.line(frame(w.between(1, 16), *[w.pick(values) for _ in range(w.pick([1, 2, 4]))]))
     w.flush()
 
 
@@ -1049,12 +1205,40 @@ def versions(seed, lines):
         else:
             p, s = w.product(), w.pick([0, 1, 2, 15])
             w.line(ask(p, 9, u, s, w.below(max(1, len(e.sessions[p, s]))), d))
+
+    # Mandates at 65535 need no new version.  Row 15 comes before row 9.
+    there = w.some([x for x in sorted(e.may_read) if e.holders(x[0])] or sorted(e.may_read), 5)
+    for r, d in there[:4]:
+        w.line(frame(4, r, d))                          # 9
+        w.line(frame(16, r, d))                         # accepted
+        w.line(frame(16, r, d))                         # 3
+        w.line(frame(4, r, d))                          # 15 before 9
+        w.line(frame(3, r, d))                          # 3: it is still permitted
+    for r, d in there[4:]:
+        w.line(frame(4, r, d))                          # 9 as before
+    unread = w.pick([(r, d) for r in held for d in databases if (r, d) not in e.may_read])
+    w.line(frame(16, *unread))                          # 4
+    w.line(frame(4, *unread))                           # 4
+    w.line(frame(16, there[0][0], 64))                  # 2
+    w.line(frame(16, 64, there[0][1]))
+    for kind in (16, 3, 16, 16, 4):                     # nobody holds role 51: no version is due
+        w.line(frame(kind, 51, 62))
+    w.line(frame(5, 60, 61))
+    for r, d in there:
+        for s in (0, 1, 2, 15):
+            for p in order:
+                flows = [f for f, flow in enumerate(e.sessions[p, s]) if d in flow.reach]
+                for f in w.some(flows, 3) or [w.below(8)]:
+                    w.line(ask(p, 9, w.pick(sorted(e.holders(r)) or users), s, f, d))
+                    w.line(ask(p, 9, w.pick(users), s, f, d))
     while w.more():
         if w.chance(0.3):
-            how = w.between(1, 4)
+            how = w.pick([1, 2, 3, 4, 4, 16])
             u, r, d = w.pick(users + [9]), w.pick(roles + [50]), w.pick(databases + [60])
             if how == 2 and not w.chance(0.02):
                 r = 65
+            if how == 16 and (r, d) in e.may_read or how == 4 and w.chance(0.2):
+                r, d = w.pick(sorted(e.mandates))
             w.line(frame(how, u, r) if how <= 2 else frame(how, r, d))
         else:
             look()
@@ -1096,7 +1280,7 @@ def noise(seed, lines):
     last = w.weighted([(3, "frame"), (2, "any"), (1, "bytes"), (1, "huge")])
     if last == "frame":
         piece = w.pick(["0600", "0b00", "010000", "030000", frame(9, 0, 0, 0, 0), "0a0000",
-                        frame(14, 0, 0, 0, 0), "0f0000"])
+                        frame(14, 0, 0, 0, 0), "0f0000", "100000"])
     elif last == "any":
         piece = w.any_frame()
     elif last == "bytes":
@@ -1127,19 +1311,29 @@ class Turns(World):
 
     def wanted_read(self, p, s):
         """A read of the session that gets the verdict wanted, if one is found."""
-        wanted = self.weighted([(30, 0), (22, 14), (14, 13), (12, 12), (10, 11), (8, 10), (4, 2)])
+        wanted = self.weighted([(30, 0), (22, 14), (14, 13), (12, 12), (10, 11), (8, 10), (4, 2)]
+                               + [(4, "passes 13"), (4, "passes 14")] * bool(self.engine.mandates))
         flows = self.flows_of(p, s)
         if wanted == 2:
             return self.pick([(0, 16 + s, 0, 0), (0, s, 8 + self.below(248), 0),
                               (0, s, 0, 64 + self.below(192)), (0, 16 + self.below(240), 0, 0)])
         if wanted == 10 or not flows:
             return self.pick(self.users_all), s, self.between(min(7, len(flows)), 7), self.root()
+        e = self.engine
+        if wanted in ("passes 13", "passes 14"):        # too rare to be met by chance
+            found = [(u, s, f, d) for (r, d) in sorted(e.mandates) for u in sorted(e.holders(r))
+                     for f in range(len(flows)) if self.verdict(p, (u, s, f, d)) == wanted]
+            if found:
+                return self.pick(found)
         for _ in range(25):
             f = max(self.below(len(flows)), self.below(len(flows)))
             d = self.pick(sorted(flows[f].reach)) if wanted != 11 else self.below(DATABASES)
             x = self.pick(self.users_all), s, f, d
-            if self.engine.read(p, *x) == wanted:
+            if self.verdict(p, x) == wanted:
                 break
+        row = self.verdict(p, x)
+        if row in (13, 14):                             # a mandate may let it pass
+            self.pool[p][row] = self.pool[p][row][-20:] + [x]
         return x
 
     def addition(self, p, s):
@@ -1174,6 +1368,8 @@ class Turns(World):
         """Now and then a frame that is no product's."""
         if self.chance(0.12):
             self.line(self.change())
+        if self.chance(0.03):
+            self.line(self.duty())
         if self.chance(0.02):
             self.line(frame(5, self.root(), self.root()))
         if self.chance(0.01):                           # never a frame: the turns stay
@@ -1187,7 +1383,7 @@ def turns(seed, lines):
 
     # The tables.  Openings, questions, refused additions and reads of either
     # product leave forwarding open.
-    for f in w.set_up():
+    for f in w.early_duties(w.set_up()):
         w.line(f)
         if w.chance(0.3):
             p, s = w.now, w.pick([0, 7, 15])
@@ -1240,8 +1436,8 @@ KINDS = {"mixed": mixed, "reads": reads, "edges": edges, "versions": versions, "
 
 
 def main(argv):
-    if argv[1:] == ["answers"]:
-        answers()
+    if argv[1:] in (["answers"], ["mandates"]):
+        {"answers": answers, "mandates": mandates}[argv[1]]()
         return 0
     if len(argv) != 4 or argv[1] not in KINDS or not argv[3].isdigit():
         sys.stderr.write(__doc__)

@@ -1,10 +1,10 @@
 /*
- * The linkage engine of document 01 with request K1: reference model and
- * baseline of speed.
+ * The linkage engine of document 01 with requests K1 and K3: reference model
+ * and baseline of speed.
  *
  * Frames on standard input, one a line; one answer line each on standard
- * output.  Sentences in quotation marks are document 01's, or K1's where that
- * is said.
+ * output.  Sentences in quotation marks are document 01's, or K1's or K3's
+ * where that is said.
  *
  *     cc -O2 -o model model.c         (C11)
  *
@@ -52,6 +52,7 @@ struct flow {
 static struct {
     set holds[USERS];           /* the roles that the user holds */
     set readers[DATABASES];     /* the roles that may read the database */
+    set mandated[DATABASES];    /* K3: those of them that have a mandate there */
     set forwards[DATABASES];    /* the databases that it forwards to */
     unsigned version[USERS];
     unsigned system;
@@ -117,11 +118,13 @@ static unsigned permit_database(unsigned role, unsigned db)
     return 0;
 }
 
-/* 04 */
+/* 04: K3's row 15, "when a permission with a mandate on it is to be revoked",
+ * stands "after 4 and before 9". */
 static unsigned revoke_database(unsigned role, unsigned db)
 {
     if (role >= ROLES || db >= DATABASES)   return 2;
     if (!has(engine.readers[db], role))     return 4;
+    if (has(engine.mandated[db], role))     return 15;
     bool due = anybody_holds(role);
     if (due && engine.system == LAST_VERSION) return 9;
     engine.readers[db] &= ~one(role);
@@ -148,6 +151,18 @@ static unsigned open_session(unsigned product, unsigned s)
     if (s >= SESSIONS)                      return 2;
     if (engine.open[product + s])           return 3;
     engine.open[product + s] = true;
+    return 0;
+}
+
+/* 10: K3: "a pair without permission gives 4, a mandated one 3.  [...] A mandate
+ * gives no new version".  No call lifts one, and row 15 keeps the permission: a
+ * role with a mandate at a database may read there. */
+static unsigned put_mandate(unsigned role, unsigned db)
+{
+    if (role >= ROLES || db >= DATABASES)   return 2;
+    if (has(engine.mandated[db], role))     return 3;
+    if (!has(engine.readers[db], role))     return 4;
+    engine.mandated[db] |= one(role);
     return 0;
 }
 
@@ -281,8 +296,11 @@ static unsigned show_constraint(unsigned product, unsigned s, unsigned f,
 
 /* 09 and 0e: bit n of rows is set when the read meets row n; the lowest one is
  * the answer.  Whether the "roles meet at least two of f's role sets" is
- * counted over all eight; those past the flow's own number are empty. */
-enum { GRANTED = 15 };
+ * counted over all eight; those past the flow's own number are empty.
+ *
+ * K3: "A read is under a mandate if the user holds a role with a mandate at the
+ * database read"; it "passes checks 13 and 14". */
+enum { GRANTED = 16 };      /* above all rows */
 
 static inline unsigned read_flow(unsigned product, unsigned user, unsigned s, unsigned f,
                                  unsigned db)
@@ -299,8 +317,9 @@ static inline unsigned read_flow(unsigned product, unsigned user, unsigned s, un
     bool no_flow   = f >= engine.count[place];
     bool unreached = !has(flow->reach, db % DATABASES);
     bool unread    = !meet(held, engine.readers[db % DATABASES]);
-    bool changed   = engine.version[user] > flow->version;
-    bool linkable  = meet(held, flow->deny) & (met >= 2);
+    bool duty      = meet(held, engine.mandated[db % DATABASES]);
+    bool changed   = !duty & (engine.version[user] > flow->version);
+    bool linkable  = !duty & meet(held, flow->deny) & (met >= 2);
 
     unsigned rows = (unsigned)above << 2     | (unsigned)closed << 6
                   | (unsigned)no_flow << 10  | (unsigned)unreached << 11
@@ -322,7 +341,7 @@ static unsigned char *put = out;
 /* The answer to a read by what read_flow returns; four bytes, three are used. */
 static const char verdict[GRANTED + 1][4] = {
     "", "01\n", "02\n", "03\n", "04\n", "05\n", "06\n", "07\n", "08\n",
-    "09\n", "0a\n", "0b\n", "0c\n", "0d\n", "0e\n", "00\n"
+    "09\n", "0a\n", "0b\n", "0c\n", "0d\n", "0e\n", "0f\n", "00\n"
 };
 
 static void write_out(void)
@@ -393,13 +412,14 @@ static void fill_pairs(void)
 }
 
 /* Digits in a line of each kind, the kind's own two among them.  Kinds 06 to 0a
- * are the server's; the term bank's like of each is the one five after it. */
-enum { KINDS = 15, LIKE = 5, LONGEST = 22 };
+ * are the server's; the term bank's like of each is the one five after it.
+ * Kind 10 is no product's. */
+enum { KINDS = 16, LIKE = 5, LONGEST = 22 };
 static const unsigned char length[KINDS + 1] = {
-    0, 6, 6, 6, 6, 6, 4, 6, 22, 10, 6, 4, 6, 22, 10, 6
+    0, 6, 6, 6, 6, 6, 4, 6, 22, 10, 6, 4, 6, 22, 10, 6, 6
 };
 
-/* 01 to 06 and 0b: "the system version, four digits" */
+/* 01 to 06, 0b and 10: "the system version, four digits" */
 static void answer_change(unsigned number)
 {
     begin(number);
@@ -452,7 +472,7 @@ static void answer_show(unsigned product, unsigned s, unsigned f)
 /* A line of the right length for its kind; x[] are its fields. */
 static void call(unsigned kind, const unsigned char *x)
 {
-    unsigned product = kind > KINDS - LIKE ? BANK : SERVER;
+    unsigned product = kind > 10 && kind <= 10 + LIKE ? BANK : SERVER;
     switch (product == BANK ? kind - LIKE : kind) {
     case 1: answer_change(assign_role(x[0], x[1]));         break;
     case 2: answer_change(withdraw_role(x[0], x[1]));       break;
@@ -470,6 +490,7 @@ static void call(unsigned kind, const unsigned char *x)
     }
     case 9: put_verdict(read_flow(product, x[0], x[1], x[2], x[3])); break;
     case 10: answer_show(product, x[0], x[1]);              break;
+    case 16: answer_change(put_mandate(x[0], x[1]));        break;
     }
 }
 

@@ -56,7 +56,7 @@ pub fn add<'a>(
     root: usize,
     chosen: u64,
 ) -> Answer
-    ensures { λ a. ⌜ ((users : List ℕ) → done a (sessionsOf opened (now (counts .exit)) (now (roots .exit)) (now (reaches .exit)) (now (versions .exit)) (now (denies .exit)) (now (rolesets .exit))) ≡ add (directoryOf (tablesOf (now (roles .entry)) (now (readers .entry)) (now (forwards .entry))) users version) (sessionsOf opened (now (counts .entry)) (now (roots .entry)) (now (reaches .entry)) (now (versions .entry)) (now (denies .entry)) (now (rolesets .entry))) s root chosen) ⌝ }
+    ensures { λ a. ⌜ ((mandates users : List ℕ) → done a (sessionsOf opened (now (counts .exit)) (now (roots .exit)) (now (reaches .exit)) (now (versions .exit)) (now (denies .exit)) (now (rolesets .exit))) ≡ add (directoryOf (tablesOf (now (roles .entry)) (now (readers .entry)) (now (forwards .entry)) mandates) users version) (sessionsOf opened (now (counts .entry)) (now (roots .entry)) (now (reaches .entry)) (now (versions .entry)) (now (denies .entry)) (now (rolesets .entry))) s root chosen) ⌝ }
 {
     if Engine::ALL_SESSIONS <= s {
         return Answer::Refused(Refusal::AboveLimit);

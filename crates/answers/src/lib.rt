@@ -28,6 +28,7 @@ fn number(why: Refusal) -> u64
         Refusal::NoPermission => 12,
         Refusal::Changed => 13,
         Refusal::Linkable => 14,
+        Refusal::Mandated => 15,
     }
 }
 

@@ -19,7 +19,7 @@ pub fn assign(
     u: usize,
     r: usize,
 ) -> Answer
-    ensures { λ a. ⌜ ((readers forwards : List ℕ) → done a (directoryOf (tablesOf (now (roles .exit)) readers forwards) (now (versions .exit)) (now (version .exit))) ≡ assign (directoryOf (tablesOf (now (roles .entry)) readers forwards) (now (versions .entry)) (now (version .entry))) u r) ⌝ }
+    ensures { λ a. ⌜ ((readers forwards mandates : List ℕ) → done a (directoryOf (tablesOf (now (roles .exit)) readers forwards mandates) (now (versions .exit)) (now (version .exit))) ≡ assign (directoryOf (tablesOf (now (roles .entry)) readers forwards mandates) (now (versions .entry)) (now (version .entry))) u r) ⌝ }
 {
     if Engine::USERS <= u {
         return Answer::Refused(Refusal::AboveLimit);
@@ -42,7 +42,7 @@ pub fn assign(
 
 // 02: user u loses role r.
 pub fn withdraw(roles: &mut [u64; Engine::USERS], version: Version, u: usize, r: usize) -> Answer
-    ensures { λ a. ⌜ ((readers forwards versions : List ℕ) → done a (directoryOf (tablesOf (now (roles .exit)) readers forwards) versions version) ≡ withdraw (directoryOf (tablesOf (now (roles .entry)) readers forwards) versions version) u r) ⌝ }
+    ensures { λ a. ⌜ ((readers forwards mandates versions : List ℕ) → done a (directoryOf (tablesOf (now (roles .exit)) readers forwards mandates) versions version) ≡ withdraw (directoryOf (tablesOf (now (roles .entry)) readers forwards mandates) versions version) u r) ⌝ }
 {
     if Engine::USERS <= u {
         return Answer::Refused(Refusal::AboveLimit);

@@ -18,7 +18,7 @@ use lib.Seq.{take-nil, take-add, take-take, drop-cons, drop-drop, drop-at, take-
 use borrow.Author.Tests.{lt-ltb, eq-eqb, le-leb, eqb-true, leb-true}
 use Rattle.sets.specs.Sets.{count}
 use Rattle.sets.proofs.Laws.{and-both, count-all}
-use Rattle.model.specs.declared.calls.Change.the-variants.{Assign, Withdraw, Permit, Revoke, Forward}
+use Rattle.model.specs.declared.calls.Change.the-variants.{Assign, Withdraw, Permit, Revoke, Forward, Mandate}
 use Rattle.model.specs.declared.calls.Product.the-variants.{Server, TermBank}
 use Rattle.model.specs.declared.calls.Ask.the-variants.{Open, Conflicting, Add, Show}
 use Rattle.model.specs.declared.calls.Call.{Call}
@@ -143,11 +143,11 @@ module _ (s : List ℕ) (n : ℕ) (bytes : Bytes s) (within : n ≤ length s) (d
 
 -- ---- kinds
 
--- a kind up to 15 has an even number of digits behind it, and 0 alone has none
-kind-digits : (k : ℕ) → k < 16 → (2 * (restDigits k / 2) ≡ restDigits k) × (min k 1 ≤ restDigits k)
+-- a kind up to 16 has an even number of digits behind it, and 0 alone has none
+kind-digits : (k : ℕ) → k < 17 → (2 * (restDigits k / 2) ≡ restDigits k) × (min k 1 ≤ restDigits k)
 unfolding restDigits count
 kind-digits k h =
-    let t = and-both (eqb (2 * (restDigits k / 2)) (restDigits k)) _ (count-all 16 (λ j. eqb (2 * (restDigits j / 2)) (restDigits j) && leb (min j 1) (restDigits j)) (omega arith) k h) in
+    let t = and-both (eqb (2 * (restDigits k / 2)) (restDigits k)) _ (count-all 17 (λ j. eqb (2 * (restDigits j / 2)) (restDigits j) && leb (min j 1) (restDigits j)) (omega arith) k h) in
     (eqb-true _ _ (t .0), leb-true _ _ (t .1))
 
 -- a call looks only at the fields that its kind has
@@ -164,7 +164,7 @@ module _ (f g : ℕ → ℕ) (m n : ℕ) where
   with-set : (C : ℕ → ℕ → ℕ → Call) → ((i : ℕ) → 2 * i + 2 ≤ 20 → f i ≡ g i) → m ≡ n → C (f 0) (f 1) m ≡ C (g 0) (g 1) n
   with-set C p q = rw (p 0 (omega arith), p 1 (omega arith), q)
 
-  called-same : (k : ℕ) → k < 16 → ((i : ℕ) → 2 * i + 2 ≤ restDigits k → f i ≡ g i) → (restDigits k ≡ 20 → m ≡ n) → calledBy k f m ≡ calledBy k g n
+  called-same : (k : ℕ) → k < 17 → ((i : ℕ) → 2 * i + 2 ≤ restDigits k → f i ≡ g i) → (restDigits k ≡ 20 → m ≡ n) → calledBy k f m ≡ calledBy k g n
   unfolding restDigits calledBy
   called-same =
       by-kind (λ k. ((i : ℕ) → 2 * i + 2 ≤ restDigits k → f i ≡ g i) → (restDigits k ≡ 20 → m ≡ n) → calledBy k f m ≡ calledBy k g n)
@@ -184,12 +184,13 @@ module _ (f g : ℕ → ℕ) (m n : ℕ) where
       (λ p q. with-set (λ a b c. Session TermBank a (Add b c)) p (q refl))
       (λ p q. four (Read TermBank) p)
       (λ p q. two (λ a b. Session TermBank a (Show b)) p)
+      (λ p q. two (λ a b. Table (Mandate a b)) p)
 
-known-kind : (k : ℕ) (f : ℕ → ℕ) (m : ℕ) → isFrame (calledBy k f m) ≡ true → (1 ≤ k) × (k < 16)
+known-kind : (k : ℕ) (f : ℕ → ℕ) (m : ℕ) → isFrame (calledBy k f m) ≡ true → (1 ≤ k) × (k < 17)
 unfolding isFrame
-known-kind k f m e = go (decLt k 1) (decLt 15 k)
+known-kind k f m e = go (decLt k 1) (decLt 16 k)
   where
-    go : Dec (k < 1) → Dec (15 < k) → (1 ≤ k) × (k < 16)
+    go : Dec (k < 1) → Dec (16 < k) → (1 ≤ k) × (k < 17)
     go (yes l) h = absurd (true≢false (sym e ∙ ap isFrame (unknown k f m (inl l))))
     go (no l) (yes h) = absurd (true≢false (sym e ∙ ap isFrame (unknown k f m (inr h))))
     go (no l) (no h) = (omega (arith, l), omega (arith, h))
@@ -200,7 +201,7 @@ record Framed (d : List ℕ) (k : ℕ) : Type 0 where
   pub long : 2 ≤ length d
   pub kind : allDigits (take 2 d) ≡ true
   pub is : number (take 2 d) ≡ k
-  pub known : k < 16
+  pub known : k < 17
   pub within : restDigits k < length (drop 2 d)
   pub feed : getD (drop 2 d) (restDigits k) 0 ≡ lineFeed
   pub digits : allDigits (take (restDigits k) (drop 2 d)) ≡ true
@@ -284,7 +285,7 @@ framed-begins d k b f e =
 record Whole (line : List ℕ) (k : ℕ) : Type 0 where
   pub all : allDigits line ≡ true
   pub size : length line ≡ 2 + restDigits k
-  pub known : k < 16
+  pub known : k < 17
 
 whole-frame : (line : List ℕ) → isFrame (callOf line) ≡ true → Whole line (number (take 2 line))
 unfolding callOf frame isFrame called

@@ -242,15 +242,15 @@ each P (suc n) all k h = go (decLt k n) (each P n (all .0) k)
     go (yes l) f = f l
     go (no l) f = let e : n ≡ k = omega (arith, l) in rw e at (all .1)
 
-pub by-kind : (P : ℕ → Type 0) → P 0 → P 1 → P 2 → P 3 → P 4 → P 5 → P 6 → P 7 → P 8 → P 9 → P 10 → P 11 → P 12 → P 13 → P 14 → P 15 → (k : ℕ) → k < 16 → P k
-by-kind P a b c d e f g h i j l m n o p q = each P 16 ((((((((((((((((tt, a), b), c), d), e), f), g), h), i), j), l), m), n), o), p), q)
+pub by-kind : (P : ℕ → Type 0) → P 0 → P 1 → P 2 → P 3 → P 4 → P 5 → P 6 → P 7 → P 8 → P 9 → P 10 → P 11 → P 12 → P 13 → P 14 → P 15 → P 16 → (k : ℕ) → k < 17 → P k
+by-kind P a b c d e f g h i j l m n o p q r = each P 17 (((((((((((((((((tt, a), b), c), d), e), f), g), h), i), j), l), m), n), o), p), q), r)
 
 -- what is no kind has no digits behind it
-pub no-digits : (k : ℕ) → (k < 1) ⊎ (15 < k) → restDigits k ≡ 0
+pub no-digits : (k : ℕ) → (k < 1) ⊎ (16 < k) → restDigits k ≡ 0
 unfolding restDigits
 no-digits k h =
-    let no : (j : ℕ) → (1 ≤ j) × (j ≤ 15) → eqb k j ≡ false = no-kind k h in
-    let out : (leb 1 k && leb k 15) ≡ false = ⊎-elim (λ w. rw (lt-leb 1 k w)) (λ w. rw (lt-leb k 15 w) (and-false (leb 1 k))) h in
+    let no : (j : ℕ) → (1 ≤ j) × (j ≤ 16) → eqb k j ≡ false = no-kind k h in
+    let out : (leb 1 k && leb k 16) ≡ false = ⊎-elim (λ w. rw (lt-leb 1 k w)) (λ w. rw (lt-leb k 16 w) (and-false (leb 1 k))) h in
     rw (no 6 (omega arith), no 11 (omega arith), no 8 (omega arith), no 13 (omega arith), no 9 (omega arith), no 14 (omega arith), out)
 
 -- ---- what an arm of a `match` on the kind knows
@@ -268,18 +268,28 @@ keyed-digits n (j ∷ i ∷ ks) k t h =
     let p = and-both (eqb (restDigits j) n) _ t in
     ⊎-elim (λ e. rw e (eqb-true (restDigits j) n (p .0))) (λ l. keyed-digits n (i ∷ ks) k (p .1) l) h
 
--- 01 to 05
-pub change-digits : (k : ℕ) → (k ≡ 0 → ⊥) → k < 6 → restDigits k ≡ 4
+-- a kind with none of the other shapes has two fields
+pub two-digits : (k : ℕ) → k < 17 → (k ≡ 0 → ⊥) → (OneOf (6 ∷ 11 ∷ []) k → ⊥) → (OneOf (9 ∷ 14 ∷ []) k → ⊥) → (OneOf (8 ∷ 13 ∷ []) k → ⊥) → restDigits k ≡ 4
 unfolding restDigits
-change-digits k n h = each (λ j. (j ≡ 0 → ⊥) → restDigits j ≡ 4) 6 ((((((tt, λ z. absurd (z refl)), λ z. refl), λ z. refl), λ z. refl), λ z. refl), λ z. refl) k h n
-
--- no number from 6 on to 15 is left
-pub past-shapes : (k : ℕ) → 6 ≤ k → (OneOf (6 ∷ 11 ∷ []) k → ⊥) → (OneOf (7 ∷ 10 ∷ 12 ∷ 15 ∷ []) k → ⊥) → (OneOf (9 ∷ 14 ∷ []) k → ⊥) → (OneOf (8 ∷ 13 ∷ []) k → ⊥) → 15 < k
-past-shapes k l one two four set =
-    let up : (j : ℕ) → (k ≡ j → ⊥) → j ≤ k → suc j ≤ k = λ j n m. omega (arith, n) in
-    let to9 : 9 ≤ k = up 8 (λ e. set (inl e)) (up 7 (λ e. two (inl e)) (up 6 (λ e. one (inl e)) l)) in
-    let to12 : 12 ≤ k = up 11 (λ e. one (inr e)) (up 10 (λ e. two (inr (inl e))) (up 9 (λ e. four (inl e)) to9)) in
-    up 15 (λ e. two (inr (inr (inr e)))) (up 14 (λ e. four (inr e)) (up 13 (λ e. set (inr e)) (up 12 (λ e. two (inr (inr (inl e)))) to12)))
+two-digits =
+    by-kind (λ k. (k ≡ 0 → ⊥) → (OneOf (6 ∷ 11 ∷ []) k → ⊥) → (OneOf (9 ∷ 14 ∷ []) k → ⊥) → (OneOf (8 ∷ 13 ∷ []) k → ⊥) → restDigits k ≡ 4)
+    (λ no one four set. absurd (no refl))
+    (λ no one four set. refl)
+    (λ no one four set. refl)
+    (λ no one four set. refl)
+    (λ no one four set. refl)
+    (λ no one four set. refl)
+    (λ no one four set. absurd (one (inl refl)))
+    (λ no one four set. refl)
+    (λ no one four set. absurd (set (inl refl)))
+    (λ no one four set. absurd (four (inl refl)))
+    (λ no one four set. refl)
+    (λ no one four set. absurd (one (inr refl)))
+    (λ no one four set. refl)
+    (λ no one four set. absurd (set (inr refl)))
+    (λ no one four set. absurd (four (inr refl)))
+    (λ no one four set. refl)
+    (λ no one four set. refl)
 
 -- ---- a frame from the fields that were read
 
@@ -323,11 +333,11 @@ module _ (high low rest : List ℕ) where
   unfolding addition
   with-set k = shape k 10 22 (fieldsOf 22 (pairAt high low rest 0) (pairAt high low rest 2) 0 0 (pairsNumber high low (drop 4 rest) 8))
 
-  other : (k : ℕ) → (k < 1) ⊎ (15 < k) → made k (fieldsBy high low rest (restDigits k)) ≡ kindFrame high low rest k
+  other : (k : ℕ) → (k < 1) ⊎ (16 < k) → made k (fieldsBy high low rest (restDigits k)) ≡ kindFrame high low rest k
   unfolding fieldsBy isFrame frameIf
   other k h = rw (no-digits k h, unknown k (λ i. pairAt high low rest (2 * i)) (pairsNumber high low (drop 4 rest) 8) h)
 
-  known : (k : ℕ) → k < 16 → made k (fieldsBy high low rest (restDigits k)) ≡ kindFrame high low rest k
+  known : (k : ℕ) → k < 17 → made k (fieldsBy high low rest (restDigits k)) ≡ kindFrame high low rest k
   unfolding fieldsBy restDigits calledBy fieldIn isFrame
   known =
       by-kind (λ k. made k (fieldsBy high low rest (restDigits k)) ≡ kindFrame high low rest k)
@@ -347,11 +357,12 @@ module _ (high low rest : List ℕ) where
       (with-set 13 _ refl)
       (four 14 _ refl)
       (two 15 _ refl)
+      (two 16 _ refl)
 
   of-kind : (k : ℕ) → made k (fieldsBy high low rest (restDigits k)) ≡ kindFrame high low rest k
-  of-kind k = go (decLt k 16)
+  of-kind k = go (decLt k 17)
     where
-      go : Dec (k < 16) → made k (fieldsBy high low rest (restDigits k)) ≡ kindFrame high low rest k
+      go : Dec (k < 17) → made k (fieldsBy high low rest (restDigits k)) ≡ kindFrame high low rest k
       go (yes l) = known k l
       go (no l) = other k (inr (omega (arith, l)))
 

@@ -193,10 +193,10 @@ fn fields_of<'a>(high: &'a [u16; BYTES], low: &'a [u16; BYTES], s: &'a [u8], kin
 {
     match kind {
         6 | 11 => one_field(high, low, s),
-        1 | 2 | 3 | 4 | 5 | 7 | 10 | 12 | 15 => two_fields(high, low, s),
+        1 | 2 | 3 | 4 | 5 | 7 | 10 | 12 | 15 | 16 => two_fields(high, low, s),
         9 | 14 => four_fields(high, low, s),
         8 | 13 => fields_and_set(high, low, s),
-        0 | 16..=u64::MAX => NO_FIELDS,
+        0 | 17..=u64::MAX => NO_FIELDS,
     }
 }
 

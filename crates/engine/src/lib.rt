@@ -31,6 +31,7 @@ fn taken(e: Engine, call: Call) -> Changed
     let mut roles = t.roles;
     let mut readers = t.readers;
     let mut forwards = t.forwards;
+    let mut mandates = t.mandates;
     let mut users = d.versions;
     let mut version = d.version;
     let mut opened = kept.opened;
@@ -44,6 +45,7 @@ fn taken(e: Engine, call: Call) -> Changed
         &mut roles,
         &mut readers,
         &mut forwards,
+        &mut mandates,
         &mut users,
         &mut version,
         &mut opened,
@@ -59,6 +61,7 @@ fn taken(e: Engine, call: Call) -> Changed
         roles,
         readers,
         forwards,
+        mandates,
     };
     let directory = Directory {
         tables,
@@ -130,6 +133,19 @@ pub fn forward(e: Engine, from: usize, to: usize) -> Changed
     taken(e, Call::Table(Change::Forward { from, to }))
 }
 
+// 10
+pub fn mandate(e: Engine, r: usize, d: usize) -> Changed
+    ensures { λ x. ⌜ (x .answer ≡ answer e (Call.Table (Change.Mandate r d))) × (x .engine ≡ after e (Call.Table (Change.Mandate r d))) ⌝ }
+{
+    taken(
+        e,
+        Call::Table(Change::Mandate {
+            role: r,
+            database: d,
+        }),
+    )
+}
+
 // 06 and 0b
 pub fn open_session(e: Engine, product: Product, s: usize) -> Changed
     ensures { λ x. ⌜ (x .answer ≡ answer e (Call.Session product s Ask.Open)) × (x .engine ≡ after e (Call.Session product s Ask.Open)) ⌝ }
@@ -194,6 +210,7 @@ pub fn read(e: Engine, product: Product, u: usize, s: usize, f: usize, d: usize)
     reading::read(
         &t.roles,
         &t.readers,
+        &t.mandates,
         &directory.versions,
         kept.opened,
         &kept.counts,

@@ -35,7 +35,7 @@ pub fn forward<'a>(
     d: usize,
     e: usize,
 ) -> Answer
-    ensures { λ a. ⌜ ((roles readers versions : List ℕ) → done a (directoryOf (tablesOf roles readers (now (forwards .exit))) versions version) ≡ forward (directoryOf (tablesOf roles readers (now (forwards .entry))) versions version) (now (counts .entry)) d e) ⌝ }
+    ensures { λ a. ⌜ ((roles readers mandates versions : List ℕ) → done a (directoryOf (tablesOf roles readers (now (forwards .exit)) mandates) versions version) ≡ forward (directoryOf (tablesOf roles readers (now (forwards .entry)) mandates) versions version) (now (counts .entry)) d e) ⌝ }
 {
     if Engine::DATABASES <= d {
         return Answer::Refused(Refusal::AboveLimit);

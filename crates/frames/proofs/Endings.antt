@@ -110,7 +110,7 @@ room-enough input room l =
 -- arrays of zeros are a fresh engine
 abbrev zeros : Engine
 zeros =
-    engineOf (directoryOf (tablesOf (replicate userCount 0) (replicate databaseCount 0) (replicate databaseCount 0)) (replicate userCount 0) 0)
+    engineOf (directoryOf (tablesOf (replicate userCount 0) (replicate databaseCount 0) (replicate databaseCount 0) (replicate databaseCount 0)) (replicate userCount 0) 0)
     (sessionsOf 0 (replicate allSessions 0) (replicate placeCount 0) (replicate placeCount 0) (replicate placeCount 0) (replicate placeCount 0) (replicate roleSetCount 0))
 
 is-fresh : zeros ≡ fresh

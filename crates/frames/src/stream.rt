@@ -28,6 +28,7 @@ fn answer_call(
     roles: &mut [u64; Engine::USERS],
     readers: &mut [u64; Engine::DATABASES],
     forwards: &mut [u64; Engine::DATABASES],
+    mandates: &mut [u64; Engine::DATABASES],
     users: &mut [Version; Engine::USERS],
     version: &mut Version,
     opened: &mut u64,
@@ -42,8 +43,8 @@ fn answer_call(
     at: usize,
 ) -> usize
     requires { ⌜ at + longest ≤ length (now out) ⌝ }
-    ensures engine { λ _. ⌜ (engineOf (directoryOf (tablesOf (now (roles .exit)) (now (readers .exit)) (now (forwards .exit))) (now (users .exit)) (now (version .exit))) (sessionsOf (now (opened .exit)) (now (counts .exit)) (now (roots .exit)) (now (reaches .exit)) (now (versions .exit)) (now (denies .exit)) (now (rolesets .exit)))) ≡ after (engineOf (directoryOf (tablesOf (now (roles .entry)) (now (readers .entry)) (now (forwards .entry))) (now (users .entry)) (now (version .entry))) (sessionsOf (now (opened .entry)) (now (counts .entry)) (now (roots .entry)) (now (reaches .entry)) (now (versions .entry)) (now (denies .entry)) (now (rolesets .entry)))) call ⌝ }
-    ensures line { λ r. ⌜ Wrote (now (out .entry)) (now (out .exit)) at r (reply (engineOf (directoryOf (tablesOf (now (roles .entry)) (now (readers .entry)) (now (forwards .entry))) (now (users .entry)) (now (version .entry))) (sessionsOf (now (opened .entry)) (now (counts .entry)) (now (roots .entry)) (now (reaches .entry)) (now (versions .entry)) (now (denies .entry)) (now (rolesets .entry)))) call) ⌝ }
+    ensures engine { λ _. ⌜ (engineOf (directoryOf (tablesOf (now (roles .exit)) (now (readers .exit)) (now (forwards .exit)) (now (mandates .exit))) (now (users .exit)) (now (version .exit))) (sessionsOf (now (opened .exit)) (now (counts .exit)) (now (roots .exit)) (now (reaches .exit)) (now (versions .exit)) (now (denies .exit)) (now (rolesets .exit)))) ≡ after (engineOf (directoryOf (tablesOf (now (roles .entry)) (now (readers .entry)) (now (forwards .entry)) (now (mandates .entry))) (now (users .entry)) (now (version .entry))) (sessionsOf (now (opened .entry)) (now (counts .entry)) (now (roots .entry)) (now (reaches .entry)) (now (versions .entry)) (now (denies .entry)) (now (rolesets .entry)))) call ⌝ }
+    ensures line { λ r. ⌜ Wrote (now (out .entry)) (now (out .exit)) at r (reply (engineOf (directoryOf (tablesOf (now (roles .entry)) (now (readers .entry)) (now (forwards .entry)) (now (mandates .entry))) (now (users .entry)) (now (version .entry))) (sessionsOf (now (opened .entry)) (now (counts .entry)) (now (roots .entry)) (now (reaches .entry)) (now (versions .entry)) (now (denies .entry)) (now (rolesets .entry)))) call) ⌝ }
 {
     if let Call::Read {
         product,
@@ -56,6 +57,7 @@ fn answer_call(
         let n = reading::number(
             roles,
             readers,
+            mandates,
             users,
             *opened,
             counts,
@@ -74,6 +76,7 @@ fn answer_call(
         roles,
         readers,
         forwards,
+        mandates,
         users,
         version,
         opened,
@@ -96,6 +99,7 @@ pub fn feed(
     roles: &mut [u64; Engine::USERS],
     readers: &mut [u64; Engine::DATABASES],
     forwards: &mut [u64; Engine::DATABASES],
+    mandates: &mut [u64; Engine::DATABASES],
     users: &mut [Version; Engine::USERS],
     version: &mut Version,
     opened: &mut u64,
@@ -108,7 +112,7 @@ pub fn feed(
     input: &[u8],
     out: &mut [u8],
 ) -> Fed
-    ensures { λ r. ⌜ Feeds (now (input .entry)) (now (out .entry)) (now (out .exit)) (engineOf (directoryOf (tablesOf (now (roles .exit)) (now (readers .exit)) (now (forwards .exit))) (now (users .exit)) (now (version .exit))) (sessionsOf (now (opened .exit)) (now (counts .exit)) (now (roots .exit)) (now (reaches .exit)) (now (versions .exit)) (now (denies .exit)) (now (rolesets .exit)))) (fed (length (now (out .entry))) (engineOf (directoryOf (tablesOf (now (roles .entry)) (now (readers .entry)) (now (forwards .entry))) (now (users .entry)) (now (version .entry))) (sessionsOf (now (opened .entry)) (now (counts .entry)) (now (roots .entry)) (now (reaches .entry)) (now (versions .entry)) (now (denies .entry)) (now (rolesets .entry)))) (now (input .entry))) r ⌝ }
+    ensures { λ r. ⌜ Feeds (now (input .entry)) (now (out .entry)) (now (out .exit)) (engineOf (directoryOf (tablesOf (now (roles .exit)) (now (readers .exit)) (now (forwards .exit)) (now (mandates .exit))) (now (users .exit)) (now (version .exit))) (sessionsOf (now (opened .exit)) (now (counts .exit)) (now (roots .exit)) (now (reaches .exit)) (now (versions .exit)) (now (denies .exit)) (now (rolesets .exit)))) (fed (length (now (out .entry))) (engineOf (directoryOf (tablesOf (now (roles .entry)) (now (readers .entry)) (now (forwards .entry)) (now (mandates .entry))) (now (users .entry)) (now (version .entry))) (sessionsOf (now (opened .entry)) (now (counts .entry)) (now (roots .entry)) (now (reaches .entry)) (now (versions .entry)) (now (denies .entry)) (now (rolesets .entry)))) (now (input .entry))) r ⌝ }
 {
     let high = decoding::highs();
     let low = decoding::lows();
@@ -128,6 +132,7 @@ pub fn feed(
             roles,
             readers,
             forwards,
+            mandates,
             users,
             version,
             opened,

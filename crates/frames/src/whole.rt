@@ -13,6 +13,7 @@ pub fn run(input: &[u8], out: &mut [u8]) -> Line
     let mut roles = [0u64; Engine::USERS];
     let mut readers = [0u64; Engine::DATABASES];
     let mut forwards = [0u64; Engine::DATABASES];
+    let mut mandates = [0u64; Engine::DATABASES];
     let mut users = [0 as Version; Engine::USERS];
     let mut version: Version = 0;
     let mut opened = 0u64;
@@ -26,6 +27,7 @@ pub fn run(input: &[u8], out: &mut [u8]) -> Line
         &mut roles,
         &mut readers,
         &mut forwards,
+        &mut mandates,
         &mut users,
         &mut version,
         &mut opened,

@@ -26,12 +26,12 @@ module _ (readers forwards reaches may : List ℕ) (s n root new : ℕ) (here : 
   roles-at g l = rw (q, p, here) (flow-at (λ i. readersOf roleCount databaseCount readers (reachWith reaches s n (reach databaseCount forwards root) i)) g l)
 
   -- to the role sets
-  pub sets-at : (held : List ℕ) (deny g : ℕ) → g < flowCount
-      → getD (overlappingByFlow held may deny) g 0 ≡ roleSet roleCount userCount databaseCount (tablesOf held readers forwards) deny (reachWith reaches s n (reach databaseCount forwards root) g)
+  pub sets-at : (held mandates : List ℕ) (deny g : ℕ) → g < flowCount
+      → getD (overlappingByFlow held may deny) g 0 ≡ roleSet roleCount userCount databaseCount (tablesOf held readers forwards mandates) deny (reachWith reaches s n (reach databaseCount forwards root) g)
   unfolding overlappingByFlow roleSet
-  sets-at held deny g l =
+  sets-at held mandates deny g l =
       flow-at (λ i. parentsAmong roleCount userCount held (getD may i 0) deny) g l
       ∙ ap (λ (x : ℕ). parentsAmong roleCount userCount held x deny) (roles-at g l)
 
 pub joined : Joined
-joined held readers forwards reaches s n root deny g here l = sets-at readers forwards reaches _ s n root _ (lt-leb allSessions s here) refl refl held deny g l
+joined held readers forwards mandates reaches s n root deny g here l = sets-at readers forwards reaches _ s n root _ (lt-leb allSessions s here) refl refl held mandates deny g l

@@ -25,6 +25,6 @@ overlappingByFlow held roles deny = byFlow (λ g. parentsAmong roleCount userCou
 
 -- The steps joined, as an addition takes them: flow g's result of the third, from the second's, from the first's, is its role set.
 abbrev pub Joined : Type 0
-Joined = (held readers forwards reaches : List ℕ) (s n root deny g : ℕ) → s < allSessions → g < flowCount
+Joined = (held readers forwards mandates reaches : List ℕ) (s n root deny g : ℕ) → s < allSessions → g < flowCount
     → getD (overlappingByFlow held (rolesByFlow readers reaches s n (reach databaseCount forwards root)) deny) g 0
-    ≡ roleSet roleCount userCount databaseCount (tablesOf held readers forwards) deny (reachWith reaches s n (reach databaseCount forwards root) g)
+    ≡ roleSet roleCount userCount databaseCount (tablesOf held readers forwards mandates) deny (reachWith reaches s n (reach databaseCount forwards root) g)

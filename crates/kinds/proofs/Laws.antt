@@ -16,14 +16,14 @@ use Rattle.model.specs.declared.calls.Call.the-variants.{Session, Read, Unreada
 use Rattle.protocol.specs.Lines.{calledBy}
 use Rattle.kinds.specs.Kinds.{fieldIn, productOf}
 
--- no kind is 0, or above 15
-pub no-kind : (k : ℕ) → (k < 1) ⊎ (15 < k) → (j : ℕ) → (1 ≤ j) × (j ≤ 15) → eqb k j ≡ false
+-- no kind is 0, or above 16
+pub no-kind : (k : ℕ) → (k < 1) ⊎ (16 < k) → (j : ℕ) → (1 ≤ j) × (j ≤ 16) → eqb k j ≡ false
 no-kind k h j l = ne-eqb k j (λ e. ⊎-elim (λ w. omega arith) (λ w. omega arith) h)
 
-pub unknown : (k : ℕ) (field : ℕ → ℕ) (set : ℕ) → (k < 1) ⊎ (15 < k) → calledBy k field set ≡ Unreadable
+pub unknown : (k : ℕ) (field : ℕ → ℕ) (set : ℕ) → (k < 1) ⊎ (16 < k) → calledBy k field set ≡ Unreadable
 unfolding calledBy
 unknown k field set h =
-    let no : (j : ℕ) → (1 ≤ j) × (j ≤ 15) → eqb k j ≡ false = no-kind k h in
+    let no : (j : ℕ) → (1 ≤ j) × (j ≤ 16) → eqb k j ≡ false = no-kind k h in
     rw (
       no 1 (omega arith),
       no 2 (omega arith),
@@ -40,6 +40,7 @@ unknown k field set h =
       no 13 (omega arith),
       no 14 (omega arith),
       no 15 (omega arith),
+      no 16 (omega arith),
     )
 
 -- ---- what an arm of a `match` on the kind knows
@@ -53,12 +54,12 @@ past : (k n : ℕ) → (k ≡ 0 → ⊥) → NoneOf k n → n < k
 past k zero z w = omega (arith, z)
 past k (suc n) z w = omega (arith, past k n z (w .0), w .1)
 
--- no number up to 15 is left, where the kinds of the two products go in pairs
+-- no number up to 16 is left, where the kinds of the two products go in pairs
 pub past-products : (k : ℕ) → (k ≡ 0 → ⊥) → NoneOf k 5 → (OneOf (6 ∷ 11 ∷ []) k → ⊥) → (OneOf (7 ∷ 12 ∷ []) k → ⊥) → (OneOf (8 ∷ 13 ∷ []) k → ⊥) → (OneOf (9 ∷ 14 ∷ []) k → ⊥)
-    → (OneOf (10 ∷ 15 ∷ []) k → ⊥) → 15 < k
-past-products k z w a b c d e =
-    past k 15 z
-    ((((((((((w, λ h. a (inl h)), λ h. b (inl h)), λ h. c (inl h)), λ h. d (inl h)), λ h. e (inl h)), λ h. a (inr h)), λ h. b (inr h)), λ h. c (inr h)), λ h. d (inr h)), λ h. e (inr h))
+    → (OneOf (10 ∷ 15 ∷ []) k → ⊥) → (k ≡ 16 → ⊥) → 16 < k
+past-products k z w a b c d e m =
+    past k 16 z
+    (((((((((((w, λ h. a (inl h)), λ h. b (inl h)), λ h. c (inl h)), λ h. d (inl h)), λ h. e (inl h)), λ h. a (inr h)), λ h. b (inr h)), λ h. c (inr h)), λ h. d (inr h)), λ h. e (inr h)), m)
 
 -- the call of one of two kinds, one for each product
 module _ (k : ℕ) {p : Product} (a b c d set : ℕ) (of : p ≡ productOf k) where

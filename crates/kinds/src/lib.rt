@@ -20,6 +20,12 @@ fn revoke(role: usize, database: usize) -> Call
     Call::Table(Change::Revoke { role, database })
 }
 
+fn mandate(role: usize, database: usize) -> Call
+    ensures { λ r. ⌜ r ≡ Call.Table (Change.Mandate role database) ⌝ }
+{
+    Call::Table(Change::Mandate { role, database })
+}
+
 fn asked(product: Product, session: usize, ask: Ask) -> Call
     ensures { λ r. ⌜ r ≡ Call.Session product session ask ⌝ }
 {
@@ -71,6 +77,7 @@ pub fn call_of(kind: u64, a: usize, b: usize, c: usize, d: usize, chosen: u64) -
         8 | 13 => asked(product, a, Ask::Add { root: b, chosen }),
         9 | 14 => read(product, a, b, c, d),
         10 | 15 => asked(product, a, Ask::Show { flow: b }),
-        0 | 16..=u64::MAX => Call::Unreadable,
+        16 => mandate(a, b),
+        0 | 17..=u64::MAX => Call::Unreadable,
     }
 }

@@ -185,6 +185,7 @@ fn main() {
     let mut roles = [0u64; Engine::USERS];
     let mut readers = [0u64; Engine::DATABASES];
     let mut forwards = [0u64; Engine::DATABASES];
+    let mut mandates = [0u64; Engine::DATABASES];
     let mut users = [0 as Version; Engine::USERS];
     let mut version: Version = 0;
     let mut opened = 0u64;
@@ -208,6 +209,7 @@ fn main() {
             &mut roles,
             &mut readers,
             &mut forwards,
+            &mut mandates,
             &mut users,
             &mut version,
             &mut opened,

@@ -66,6 +66,7 @@ fn run(fd: i32) {
     let mut roles = [0u64; Engine::USERS];
     let mut readers = [0u64; Engine::DATABASES];
     let mut forwards = [0u64; Engine::DATABASES];
+    let mut mandates = [0u64; Engine::DATABASES];
     let mut users = [0 as Version; Engine::USERS];
     let mut version: Version = 0;
     let mut opened = 0u64;
@@ -85,6 +86,7 @@ fn run(fd: i32) {
             &mut roles,
             &mut readers,
             &mut forwards,
+            &mut mandates,
             &mut users,
             &mut version,
             &mut opened,

@@ -7,15 +7,15 @@ use mathlib.Core.List.{List, [], _∷_, map}
 use lib.Dec.{ltb, eqb}
 use lib.ListN.{length}
 use Rattle.sets.specs.Sets.{some}
-use Rattle.model.specs.declared.calls.Change.the-variants.{Assign, Withdraw, Permit, Revoke, Forward}
+use Rattle.model.specs.declared.calls.Change.the-variants.{Assign, Withdraw, Permit, Revoke, Forward, Mandate}
 use Rattle.model.specs.declared.calls.Product.{Product}
 use Rattle.model.specs.declared.calls.Product.the-variants.{Server, TermBank}
 use Rattle.model.specs.declared.calls.Ask.the-variants.{Open, Conflicting, Add, Show}
 use Rattle.model.specs.declared.calls.Call.{Call}
 use Rattle.model.specs.declared.calls.Call.the-variants.{Table, Session, Read, Unreadable}
 use Rattle.model.specs.Limits.{sessionCount}
-use Rattle.model.specs.Ledger.{Ledger, Flow, start, same, flowOf, reachOf, reads, readsTwoOf, isConflicting, holdsDenied, linked}
-use Rattle.model.specs.Refusals.{due, spent, flowAdded, newFlow, rows, changeRows, askRows, readRows, firstMet, refusal, accepts, entered, renewed, withFlows, asked, taken, ledgerStep}
+use Rattle.model.specs.Ledger.{Ledger, Flow, start, same, flowOf, reachOf, reads, readsTwoOf, isConflicting, holdsDenied, linked, underMandate}
+use Rattle.model.specs.Refusals.{due, spent, flowAdded, newFlow, rows, changeRows, askRows, checkRows, readRows, firstMet, refusal, accepts, entered, renewed, withFlows, asked, taken, ledgerStep}
 use Rattle.model.specs.Products.{opposite, swap, numbers}
 use Rattle.model.proofs.Apart.{withSessions, by-product, more, chosen}
 
@@ -33,12 +33,13 @@ unfolding refusal rows changeRows firstMet
 turned-forward l d e = rw (turned-added l) (unfold turned withSessions in refl)
 
 pub turned-refusal : (l : Ledger) (c : Call) → refusal (turned l) (swap c) ≡ refusal l c
-unfolding refusal rows changeRows askRows readRows firstMet swap opposite turned withSessions due spent newFlow isConflicting readsTwoOf reads linked holdsDenied flowOf reachOf
+unfolding refusal rows changeRows askRows checkRows readRows firstMet swap opposite turned withSessions due spent newFlow isConflicting readsTwoOf reads linked holdsDenied underMandate flowOf reachOf
 turned-refusal l (Table (Assign u r)) = refl
 turned-refusal l (Table (Withdraw u r)) = refl
 turned-refusal l (Table (Permit r d)) = refl
 turned-refusal l (Table (Revoke r d)) = refl
 turned-refusal l (Table (Forward d e)) = turned-forward l d e
+turned-refusal l (Table (Mandate r d)) = refl
 turned-refusal l (Session Server s Open) = refl
 turned-refusal l (Session Server s (Conflicting d)) = refl
 turned-refusal l (Session Server s (Add d m)) = refl
@@ -74,6 +75,7 @@ turned-taken l (Table (Withdraw u r)) = unfold turned withSessions renewed enter
 turned-taken l (Table (Permit r d)) = unfold turned withSessions renewed entered due in refl
 turned-taken l (Table (Revoke r d)) = unfold turned withSessions renewed entered due in refl
 turned-taken l (Table (Forward d e)) = unfold turned withSessions renewed entered due in refl
+turned-taken l (Table (Mandate r d)) = unfold turned withSessions renewed entered due in refl
 turned-taken l (Session p s Open) = turned-flows l p s []
 turned-taken l (Session p s (Conflicting d)) = refl
 turned-taken l (Session p s (Add d m)) = unfold more in turned-flows l p s (more l p s d m) ∙ ap (withFlows (turned l) (opposite p) s) (sym (turned-more l p s d m))

@@ -11,21 +11,21 @@ use lib.ListN.{take}
 use Rattle.sets.specs.Sets.{some}
 use Rattle.sets.proofs.Laws.{or-none}
 use Rattle.model.specs.declared.calls.Change.{Change}
-use Rattle.model.specs.declared.calls.Change.the-variants.{Assign, Withdraw, Permit, Revoke, Forward}
+use Rattle.model.specs.declared.calls.Change.the-variants.{Assign, Withdraw, Permit, Revoke, Forward, Mandate}
 use Rattle.model.specs.declared.calls.Product.{Product}
 use Rattle.model.specs.declared.calls.Product.the-variants.{Server, TermBank}
 use Rattle.model.specs.declared.calls.Ask.the-variants.{Open, Conflicting, Add, Show}
 use Rattle.model.specs.declared.calls.Call.{Call}
 use Rattle.model.specs.declared.calls.Call.the-variants.{Table, Session, Read, Unreadable}
-use Rattle.model.specs.Ledger.{Ledger, Flow, start, same, flowOf, reachOf, reads, readsTwoOf, isConflicting, holdsDenied, linked}
-use Rattle.model.specs.Refusals.{due, spent, flowAdded, newFlow, rows, changeRows, askRows, readRows, firstMet, refusal, accepts, entered, renewed, withFlows, asked, taken, ledgerStep, ledgerAfter}
+use Rattle.model.specs.Ledger.{Ledger, Flow, start, same, flowOf, reachOf, reads, readsTwoOf, isConflicting, holdsDenied, linked, underMandate}
+use Rattle.model.specs.Refusals.{due, spent, flowAdded, newFlow, rows, changeRows, askRows, checkRows, readRows, firstMet, refusal, accepts, entered, renewed, withFlows, asked, taken, ledgerStep, ledgerAfter}
 use Rattle.model.specs.Demands.{callAt, ledgerAt}
 use Rattle.model.specs.Products.{isOf, struck, numbersLeft, ForwardsFirst}
 
 -- ---- a ledger without one product's sessions
 
 unfoldable pub withSessions : Ledger → (Product → ℕ → Bool) → (Product → ℕ → List Flow) → Ledger
-withSessions l opened flows = record { holds = l .holds; mayRead = l .mayRead; forwards = l .forwards; system = l .system; version = l .version; opened = opened; flows = flows }
+withSessions l opened flows = record { holds = l .holds; mayRead = l .mayRead; forwards = l .forwards; mandated = l .mandated; system = l .system; version = l .version; opened = opened; flows = flows }
 
 unfoldable pub without : Product → Ledger → Ledger
 unfolding withSessions
@@ -62,12 +62,13 @@ unfolding refusal rows changeRows firstMet
 forward-refusal q l d e h = rw (not-added l h, not-added (without q l) (no-flow-without q l h)) (unfold without withSessions in refl)
 
 pub same-refusal : (q : Product) (l : Ledger) (c : Call) → isOf q c ≡ false → Early l c → refusal (without q l) c ≡ refusal l c
-unfolding refusal rows changeRows askRows readRows firstMet isOf without withSessions due spent newFlow isConflicting readsTwoOf reads linked holdsDenied flowOf reachOf
+unfolding refusal rows changeRows askRows checkRows readRows firstMet isOf without withSessions due spent newFlow isConflicting readsTwoOf reads linked holdsDenied underMandate flowOf reachOf
 same-refusal q l (Table (Assign u r)) h k = refl
 same-refusal q l (Table (Withdraw u r)) h k = refl
 same-refusal q l (Table (Permit r d)) h k = refl
 same-refusal q l (Table (Revoke r d)) h k = refl
 same-refusal q l (Table (Forward d e)) h k = forward-refusal q l d e (k d e refl)
+same-refusal q l (Table (Mandate r d)) h k = refl
 same-refusal q l (Session p s Open) h k = rw h
 same-refusal q l (Session p s (Conflicting d)) h k = rw h
 same-refusal q l (Session p s (Add d m)) h k = rw h
@@ -118,6 +119,7 @@ same-taken q l (Table (Withdraw u r)) h = unfold without withSessions renewed en
 same-taken q l (Table (Permit r d)) h = unfold without withSessions renewed entered due in refl
 same-taken q l (Table (Revoke r d)) h = unfold without withSessions renewed entered due in refl
 same-taken q l (Table (Forward d e)) h = unfold without withSessions renewed entered due in refl
+same-taken q l (Table (Mandate r d)) h = unfold without withSessions renewed entered due in refl
 same-taken q l (Session p s Open) h = flows-without q p l s [] h
 same-taken q l (Session p s (Conflicting d)) h = refl
 same-taken q l (Session p s (Add d m)) h = unfold more in flows-without q p l s (more l p s d m) h ∙ ap (withFlows (without q l) p s) (sym (same-more q p l s d m h))
@@ -177,6 +179,7 @@ no-flow-change l (Withdraw u r) h = h
 no-flow-change l (Permit r d) h = h
 no-flow-change l (Revoke r d) h = h
 no-flow-change l (Forward d e) h = h
+no-flow-change l (Mandate r d) h = h
 
 no-flow-taken : (l : Ledger) (c : Call) → NoFlow l → ((p : Product) (s root chosen : ℕ) → c ≡ Session p s (Add root chosen) → ⊥) → NoFlow (taken l c)
 unfolding taken asked

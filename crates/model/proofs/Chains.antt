@@ -50,7 +50,7 @@ unfolding firstMet returned verdictOf
 stopped s why rows granted = record { number = refl; refused = λ w r. refl; passed = λ g. absurd (let z : _≡_ {A = ℕ} 0 1 = cc in omega arith) }
 
 -- a row that is not met
-missed : {S : Type 0} (s : S) (n : ℕ) (rows : List (ℕ × Bool)) (granted x : Done S) → Checked s rows granted x → Checked s ((n, false) ∷ rows) granted x
+pub missed : {S : Type 0} (s : S) (n : ℕ) (rows : List (ℕ × Bool)) (granted x : Done S) → Checked s rows granted x → Checked s ((n, false) ∷ rows) granted x
 unfolding firstMet
 missed s n rows granted x c = record { number = c .number; refused = c .refused; passed = c .passed }
 

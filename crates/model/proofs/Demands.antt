@@ -10,7 +10,7 @@ use lib.ListN.{take}
 use borrow.Author.Tests.{eqb-false}
 use Rattle.model.specs.declared.Engine.{Engine}
 use Rattle.model.specs.declared.calls.Refusal.{Refusal}
-use Rattle.model.specs.declared.calls.Refusal.the-variants.{Malformed, AboveLimit, AlreadyThere, NotThere, FlowAdded, NotOpen, SessionFull, NotConflicting, VersionsSpent, NoSuchFlow, OutOfReach, NoPermission, Changed, Linkable}
+use Rattle.model.specs.declared.calls.Refusal.the-variants.{Malformed, AboveLimit, AlreadyThere, NotThere, FlowAdded, NotOpen, SessionFull, NotConflicting, VersionsSpent, NoSuchFlow, OutOfReach, NoPermission, Changed, Linkable, Mandated}
 use Rattle.model.specs.declared.calls.Product.{Product}
 use Rattle.model.specs.declared.calls.Call.{Call}
 use Rattle.model.specs.declared.calls.Call.the-variants.{Read}
@@ -46,7 +46,7 @@ agree : (cs : List Call) (i : ℕ) → Agree (engineAt cs i) (ledgerAt cs i)
 unfolding engineAt ledgerAt
 agree cs i = agree-after fresh start (take i cs) (record { sized = sized-fresh; kept = kept-fresh; same = seen-fresh })
 
-numbered : (cs : List Call) (i : ℕ) (c : Call) → returned (verdict (engineAt cs i) c) ≡ refusal (ledgerAt cs i) c
+pub numbered : (cs : List Call) (i : ℕ) (c : Call) → returned (verdict (engineAt cs i) c) ≡ refusal (ledgerAt cs i) c
 numbered cs i c = let h = agree cs i in number-told (engineAt cs i) c (h .kept) ∙ ap (λ (l : Ledger). refusal l c) (h .same)
 
 -- ---- a verdict from its number
@@ -67,8 +67,9 @@ fourteenth OutOfReach h = absurd (omega arith)
 fourteenth NoPermission h = absurd (omega arith)
 fourteenth Changed h = absurd (omega arith)
 fourteenth Linkable h = refl
+fourteenth Mandated h = absurd (omega arith)
 
-told : (v : Verdict) (b : Bool) → returned v ≡ cond b 14 0 → v ≡ cond b (Refused Linkable) Granted
+pub told : (v : Verdict) (b : Bool) → returned v ≡ cond b 14 0 → v ≡ cond b (Refused Linkable) Granted
 unfolding returned
 told Granted true h = absurd (omega arith)
 told Granted false h = refl
@@ -88,6 +89,6 @@ demand3 cs = record {
   same = λ i. agree cs i .same;
   numbered = λ i. numbered cs i (callAt cs i);
   accepting = λ i l h. ap (λ (n : ℕ). eqb n 0) (numbered cs i (callAt cs i));
-  second = λ p i u s f d l c r. told (verdict (engineAt cs i) (Read p u s f d)) (linked (ledgerAt cs i) p u s f) (numbered cs i (Read p u s f d) ∙ last-row (ledgerAt cs i) p u s f d r);
-  first = λ p i j u s f g d e l m x y n v w a b k. first-half cs p i j u s f g d e l m x y n (none-met cs p i u s f d v) (none-met cs p j u s g e w) a b k;
+  second = λ p i u s f d l c o r. told (verdict (engineAt cs i) (Read p u s f d)) (linked (ledgerAt cs i) p u s f) (numbered cs i (Read p u s f d) ∙ last-row (ledgerAt cs i) p u s f d o r);
+  first = λ p i j u s f g d e l m x y n v w o q a b k. first-half cs p i j u s f g d e l m x y n (none-met cs p i u s f d v) (none-met cs p j u s g e w) o q a b k;
 }

@@ -5,13 +5,13 @@ use lib.Dec.{eqb}
 use Rattle.sets.specs.Sets.{inserted, joined, sizeOf}
 use Rattle.rows.specs.Reach.{reach}
 use Rattle.tables.specs.declared.Tables.{Tables}
-use Rattle.tables.specs.Tables.{roleCount, databaseCount, assigned, withdrawn, permitted, revoked, forwarded}
+use Rattle.tables.specs.Tables.{roleCount, databaseCount, assigned, withdrawn, permitted, revoked, forwarded, mandated}
 use Rattle.model.specs.declared.Directory.{Directory}
 use Rattle.model.specs.declared.Sessions.{Sessions}
 use Rattle.model.specs.declared.Engine.{Engine}
 use Rattle.model.specs.declared.calls.Refusal.the-variants.{Malformed}
 use Rattle.model.specs.declared.calls.Change.{Change}
-use Rattle.model.specs.declared.calls.Change.the-variants.{Assign, Withdraw, Permit, Revoke, Forward}
+use Rattle.model.specs.declared.calls.Change.the-variants.{Assign, Withdraw, Permit, Revoke, Forward, Mandate}
 use Rattle.model.specs.declared.calls.Ask.{Ask}
 use Rattle.model.specs.declared.calls.Ask.the-variants.{Open, Conflicting, Add, Show}
 use Rattle.model.specs.declared.calls.Call.{Call}
@@ -28,6 +28,7 @@ changedTables T (Withdraw u r) = withdrawn T u r
 changedTables T (Permit r d) = permitted T r d
 changedTables T (Revoke r d) = revoked T r d
 changedTables T (Forward d x) = forwarded T d x
+changedTables T (Mandate r d) = mandated T r d
 
 unfoldable pub givenBy : Directory → Change → Directory
 givenBy D (Assign u r) = newVersion D (λ w. eqb w u)
@@ -35,6 +36,7 @@ givenBy D (Withdraw u r) = D
 givenBy D (Permit r d) = toHolders D r
 givenBy D (Revoke r d) = toHolders D r
 givenBy D (Forward d x) = D
+givenBy D (Mandate r d) = D
 
 unfoldable pub changedDirectory : Directory → Change → Directory
 changedDirectory D c = givenBy (withTables D (changedTables (D .tables) c)) c

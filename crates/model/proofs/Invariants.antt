@@ -16,6 +16,7 @@ pub record Sized (e : Engine) : Type 0 where
   pub roles : length (e .directory .tables .roles) ≡ userCount
   pub readers : length (e .directory .tables .readers) ≡ databaseCount
   pub forwards : length (e .directory .tables .forwards) ≡ databaseCount
+  pub mandates : length (e .directory .tables .mandates) ≡ databaseCount
   pub users : length (e .directory .versions) ≡ userCount
   pub counts : length (e .sessions .counts) ≡ allSessions
   pub roots : length (e .sessions .roots) ≡ placeCount

@@ -16,15 +16,15 @@ use Rattle.sets.specs.Sets.{some, count}
 use Rattle.sets.proofs.Laws.{and-both, and-true, or-either, or-neither, or-none, or-left, and-all, some-of, some-at, count-two}
 use Rattle.tables.specs.Tables.{userCount, roleCount, databaseCount}
 use Rattle.model.specs.declared.calls.Change.{Change}
-use Rattle.model.specs.declared.calls.Change.the-variants.{Assign, Withdraw, Permit, Revoke, Forward}
+use Rattle.model.specs.declared.calls.Change.the-variants.{Assign, Withdraw, Permit, Revoke, Forward, Mandate}
 use Rattle.model.specs.declared.calls.Product.{Product}
 use Rattle.model.specs.declared.calls.Ask.{Ask}
 use Rattle.model.specs.declared.calls.Ask.the-variants.{Open, Conflicting, Add, Show}
 use Rattle.model.specs.declared.calls.Call.{Call}
 use Rattle.model.specs.declared.calls.Call.the-variants.{Table, Session, Read, Unreadable}
 use Rattle.model.specs.Limits.{sessionCount, flowCount}
-use Rattle.model.specs.Ledger.{Ledger, Flow, start, same, flowOf, reads, readsTwoOf, holdsDenied, linked}
-use Rattle.model.specs.Refusals.{due, newFlow, askRows, readRows, rows, firstMet, refusal, earlierRefusal, accepts, plus, minus, entered, renewed, withFlows, asked, taken, ledgerStep, ledgerAfter}
+use Rattle.model.specs.Ledger.{Ledger, Flow, start, same, flowOf, reads, readsTwoOf, holdsDenied, linked, underMandate}
+use Rattle.model.specs.Refusals.{due, newFlow, askRows, checkRows, readRows, rows, firstMet, refusal, earlierRefusal, accepts, plus, minus, entered, renewed, withFlows, asked, taken, ledgerStep, ledgerAfter}
 use Rattle.model.specs.Demands.{callAt, ledgerAt, takesFrom}
 use Rattle.model.proofs.Laws.{same-is}
 use Rattle.model.proofs.Chains.{not-met}
@@ -38,9 +38,14 @@ firstOf a b c g h i p = cond a 2 (cond b 6 (cond c 10 (cond g 11 (cond h 12 (con
 module _ (l : Ledger) (links : Product → ℕ → ℕ → ℕ → Bool) (p : Product) (u s f d : ℕ) where
   met-read : firstMet (readRows l links p u s f d)
       ≡ firstOf ((leb userCount u || leb databaseCount d) || (leb sessionCount s || leb flowCount f)) (not (l .opened p s)) (leb (length (l .flows p s)) f) (not (flowOf l p s f .reach d))
-      (not (some roleCount (λ r. l .holds u r && l .mayRead r d))) (ltb (flowOf l p s f .version) (l .version u)) (links p u s f)
-  unfolding readRows firstMet firstOf
+      (not (some roleCount (λ r. l .holds u r && l .mayRead r d))) (not (underMandate l u d) && ltb (flowOf l p s f .version) (l .version u)) (not (underMandate l u d) && links p u s f)
+  unfolding checkRows readRows firstMet firstOf
   met-read = refl
+
+  -- under a mandate the number is that of the first of rows 2 to 12
+  pub duty-rows : underMandate l u d ≡ true → firstMet (readRows l links p u s f d) ≡ firstMet (checkRows l p u s f d)
+  unfolding checkRows readRows firstMet
+  duty-rows h = rw h
 
 none-met : (a b c g h i p : Bool) → firstOf a b c g h i p ≡ 0 → (a ≡ false) × (b ≡ false) × (c ≡ false) × (g ≡ false) × (h ≡ false) × (i ≡ false) × (p ≡ false)
 unfolding firstOf
@@ -69,6 +74,15 @@ settled : (a b c g h i p : Bool) → firstOf a b c g h i false ≡ 0 → firstOf
 unfolding firstOf
 settled a b c g h i p e = let w = none-met a b c g h i false e in rw (w .0, w .1, w .2, w .3, w .4, w .5)
 
+-- a test that a mandate passes: outside one it is met where it says so
+outside : (m x : Bool) → m ≡ false → (not m && x) ≡ false → x ≡ false
+outside m x h e = rw h at e
+
+-- and two such tests are the same where they agree on what comes to them
+spared : (m x y z : Bool) → (not m && x) ≡ false → (x ≡ false → y ≡ z) → (not m && y) ≡ (not m && z)
+spared true x y z e f = refl
+spared false x y z e f = f e
+
 -- row 2 is not met: the flow and the database are below their limits
 below : (u s f d : ℕ) → ((leb userCount u || leb databaseCount d) || (leb sessionCount s || leb flowCount f)) ≡ false → (f < flowCount) × (d < databaseCount)
 below u s f d h =
@@ -81,15 +95,16 @@ pub same-rows : (l : Ledger) (links links′ : Product → ℕ → ℕ → ℕ �
     → firstMet (readRows l links p u s f d) ≡ firstMet (readRows l links′ p u s f d)
 same-rows l links links′ p u s f d h =
     met-read l links p u s f d
-    ∙ same-number _ _ _ _ _ _ _ _ (λ a c i. h (below u s f d a .0) (leb-false (length (l .flows p s)) f c) (ltb-false (flowOf l p s f .version) (l .version u) i))
+    ∙ same-number _ _ _ _ _ _ _ _ (λ a c i. spared (underMandate l u d) _ _ _ i (λ j. h (below u s f d a .0) (leb-false (length (l .flows p s)) f c) (ltb-false (flowOf l p s f .version) (l .version u) j)))
     ∙ sym (met-read l links′ p u s f d)
 
--- of a read that meets no row before 14, the number is settled by row 14
-pub last-row : (l : Ledger) (p : Product) (u s f d : ℕ) → earlierRefusal l (Read p u s f d) ≡ 0 → refusal l (Read p u s f d) ≡ cond (linked l p u s f) 14 0
+-- of a read outside a mandate that meets no row before 14, the number is settled by row 14
+pub last-row : (l : Ledger) (p : Product) (u s f d : ℕ) → underMandate l u d ≡ false → earlierRefusal l (Read p u s f d) ≡ 0 → refusal l (Read p u s f d) ≡ cond (linked l p u s f) 14 0
 unfolding earlierRefusal refusal rows
-last-row l p u s f d h = met-read l (linked l) p u s f d ∙ settled _ _ _ _ _ _ (linked l p u s f) (sym (met-read l (λ q v t g. false) p u s f d) ∙ h)
+last-row l p u s f d o h =
+    met-read l (linked l) p u s f d ∙ rw o (settled _ _ _ _ _ _ (linked l p u s f) (rw o at (sym (met-read l (λ q v t g. false) p u s f d) ∙ h)))
 
--- what is known of a read that meets no row
+-- what is known of a read outside a mandate that meets no row
 record Passed (l : Ledger) (p : Product) (u s f d : ℕ) : Type 0 where
   inside : d < databaseCount
   there : f < length (l .flows p s)
@@ -98,17 +113,17 @@ record Passed (l : Ledger) (p : Product) (u s f d : ℕ) : Type 0 where
   current : l .version u ≤ flowOf l p s f .version
   unlinked : linked l p u s f ≡ false
 
-read-passed : (l : Ledger) (p : Product) (u s f d : ℕ) → refusal l (Read p u s f d) ≡ 0 → Passed l p u s f d
+read-passed : (l : Ledger) (p : Product) (u s f d : ℕ) → underMandate l u d ≡ false → refusal l (Read p u s f d) ≡ 0 → Passed l p u s f d
 unfolding refusal rows
-read-passed l p u s f d h =
+read-passed l p u s f d o h =
     let w = none-met _ _ _ _ _ _ _ (sym (met-read l (linked l) p u s f d) ∙ h) in
     record {
       inside = below u s f d (w .0) .1;
       there = leb-false (length (l .flows p s)) f (w .2);
       reached = not-false (flowOf l p s f .reach d) (w .3);
       permitted = not-false (some roleCount (λ r. l .holds u r && l .mayRead r d)) (w .4);
-      current = ltb-false (flowOf l p s f .version) (l .version u) (w .5);
-      unlinked = w .6;
+      current = ltb-false (flowOf l p s f .version) (l .version u) (outside (underMandate l u d) _ o (w .5));
+      unlinked = outside (underMandate l u d) _ o (w .6);
     }
 
 -- ---- what a user reads
@@ -222,6 +237,7 @@ entered-rest l (Withdraw u r) = (refl, refl, refl, refl)
 entered-rest l (Permit r d) = (refl, refl, refl, refl)
 entered-rest l (Revoke r d) = (refl, refl, refl, refl)
 entered-rest l (Forward d e) = (refl, refl, refl, refl)
+entered-rest l (Mandate r d) = (refl, refl, refl, refl)
 
 -- two roles of which a user holds one differ
 not-held : (l : Ledger) (u r x : ℕ) → l .holds u x ≡ false → l .holds u r ≡ true → r ≢ x
@@ -235,6 +251,7 @@ undue l (Withdraw w x) u r n h = (minus-of (l .holds) w x u r h, λ d. refl)
 undue l (Permit x y) u r n h = (h, λ d. plus-other (l .mayRead) x y r d (not-held l u r x n h))
 undue l (Revoke x y) u r n h = (h, λ d. minus-other (l .mayRead) x y r d (not-held l u r x n h))
 undue l (Forward x y) u r n h = (h, λ d. refl)
+undue l (Mandate x y) u r n h = (h, λ d. refl)
 
 module _ (l : Ledger) (c : Change) where
   change-rises : l .system ≤ taken l (Table c) .system
@@ -282,6 +299,7 @@ change-leaves l (Revoke x y) u r d n h =
     let e = and-both (l .holds u r) (l .mayRead r d) h in
     rw (minus-other (l .mayRead) x y r d (not-held l u r x n (e .0))) h
 change-leaves l (Forward x y) u r d n h = h
+change-leaves l (Mandate x y) u r d n h = h
 
 -- ---- what is asked of a session
 
@@ -373,7 +391,7 @@ module _ (l : Ledger) (p : Product) (s : ℕ) (a : Ask) (o : Ordered l) (h : acc
 -- ---- any call
 
 -- the ledger stays, or the call is accepted
-step-by : (P : Ledger → Type 0) (l : Ledger) (c : Call) → P l → (accepts l c ≡ true → P (taken l c)) → P (ledgerStep l c)
+pub step-by : (P : Ledger → Type 0) (l : Ledger) (c : Call) → P l → (accepts l c ≡ true → P (taken l c)) → P (ledgerStep l c)
 unfolding ledgerStep
 step-by P l c h f = go (accepts l c) refl
   where
@@ -435,7 +453,7 @@ unfolding ledgerAfter
 after-one-more l [] c = refl
 after-one-more l (b ∷ cs) c = after-one-more (ledgerStep l b) cs c
 
-ledger-step : (cs : List Call) (k : ℕ) → k < length cs → ledgerAt cs (suc k) ≡ ledgerStep (ledgerAt cs k) (callAt cs k)
+pub ledger-step : (cs : List Call) (k : ℕ) → k < length cs → ledgerAt cs (suc k) ≡ ledgerStep (ledgerAt cs k) (callAt cs k)
 unfolding ledgerAt callAt
 ledger-step cs k h = rw (take-suc cs k Unreadable) (after-one-more start (take k cs) (getD cs k Unreadable))
 
@@ -465,12 +483,13 @@ left-at cs i j u r d l m n h =
 pub first-half : (cs : List Call) (p : Product) (i j u s f g d e : ℕ) → i < j → j < length cs
     → callAt cs i ≡ Read p u s f d → callAt cs j ≡ Read p u s g e → f ≢ g
     → refusal (ledgerAt cs i) (Read p u s f d) ≡ 0 → refusal (ledgerAt cs j) (Read p u s g e) ≡ 0
+    → underMandate (ledgerAt cs i) u d ≡ false → underMandate (ledgerAt cs j) u e ≡ false
     → (f < g → holdsDenied (ledgerAt cs j) u (flowOf (ledgerAt cs j) p s g) ≡ true)
     → (g < f → holdsDenied (ledgerAt cs i) u (flowOf (ledgerAt cs i) p s f) ≡ true)
     → ((k : ℕ) (c : Change) → i < k → k < j → callAt cs k ≡ Table c → accepts (ledgerAt cs k) (Table c) ≡ true → takesFrom (ledgerAt cs k) u c ≡ false)
     → ⊥
 unfolding Spares mayUse
-first-half cs p i j u s f g d e l m v w n a b x y z = go (decLt f g)
+first-half cs p i j u s f g d e l m v w n a b o q x y z = go (decLt f g)
   where
     then : Ledger
     then = ledgerAt cs i
@@ -480,10 +499,10 @@ first-half cs p i j u s f g d e l m v w n a b x y z = go (decLt f g)
 
     -- the first read and the second
     one : Passed then p u s f d
-    one = read-passed then p u s f d a
+    one = read-passed then p u s f d o a
 
     two : Passed now p u s g e
-    two = read-passed now p u s g e b
+    two = read-passed now p u s g e q b
 
     since : Since then now
     since = since-at cs i j (omega arith) (omega arith)

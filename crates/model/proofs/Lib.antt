@@ -13,5 +13,6 @@ pub mod Lasting
 pub mod Steps
 pub mod Kept
 pub mod Demands
+pub mod Mandates
 pub mod Closing
 pub mod Products

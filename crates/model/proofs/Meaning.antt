@@ -26,7 +26,7 @@ use Rattle.model.specs.declared.Engine.{Engine}
 use Rattle.model.specs.declared.calls.Refusal.{Refusal}
 use Rattle.model.specs.declared.calls.Refusal.the-variants.{AboveLimit, NotOpen, NoSuchFlow, OutOfReach, NoPermission, Changed, Linkable}
 use Rattle.model.specs.declared.calls.Change.{Change}
-use Rattle.model.specs.declared.calls.Change.the-variants.{Assign, Withdraw, Permit, Revoke, Forward}
+use Rattle.model.specs.declared.calls.Change.the-variants.{Assign, Withdraw, Permit, Revoke, Forward, Mandate}
 use Rattle.model.specs.declared.calls.Product.{Product}
 use Rattle.model.specs.declared.calls.Ask.the-variants.{Open, Conflicting, Add, Show}
 use Rattle.model.specs.declared.calls.Call.{Call}
@@ -36,10 +36,10 @@ use Rattle.model.specs.declared.calls.Verdict.the-variants.{Granted, Ref
 use Rattle.model.specs.Limits.{sessionCount, flowCount}
 use Rattle.model.specs.State.{allSessions, sessionAt, placeCount}
 use Rattle.model.specs.State.{fresh, engineOf, filled, place, reachWith, conflicts, outside, denyBefore, parentsAmong, roleSet, linkable, rolesetAt, newVersion}
-use Rattle.model.specs.Calls.{numberOf, returned, verdictOf, withTables, toHolders, bar, conflictsIn, withFlow, show, links, read, answerOf, ask, step, answer, verdict, after, constraintAt, shownAt, shownBy}
+use Rattle.model.specs.Calls.{numberOf, returned, verdictOf, withTables, toHolders, bar, conflictsIn, withFlow, show, links, byDuty, read, answerOf, ask, step, answer, verdict, after, constraintAt, shownAt, shownBy}
 use Rattle.model.specs.Demands.{engineAfter, engineAt}
 use Rattle.model.specs.Meaning.{One, Meets, NumbersMean, flowsOf, reachOf, versionOf, denyOf, rolesOf, heldOf, userVersion, ReadsTwo, Links, SetsMean, countedIn, QueryMeans}
-use Rattle.model.specs.Meaning.{Renewed, RenewedHolders, Changes, SameFlow, Opened, Added, Means, ValueMeans, Checked, ReadMeans, ShowMeans, FreshMeans}
+use Rattle.model.specs.Meaning.{Renewed, RenewedHolders, Changes, SameFlow, Opened, Added, Means, ValueMeans, Checked, UnderMandate, ReadMeans, ShowMeans, FreshMeans}
 use Rattle.model.proofs.Laws.{getD-same, getD-filled, getD-given, session-within, session-above, session-limit, session-one, places, place-lt, roleset-put, roleset-stays}
 use Rattle.model.proofs.Invariants.{Sized}
 use Rattle.model.proofs.Chains.{refused-answer}
@@ -297,6 +297,7 @@ changes e (Withdraw u r) z = (refl, record { stays = refl; kept = refl })
 changes e (Permit r d) z = (given-lengths _ (Permit r d) .0, holders-renewed (e .directory) (e .sessions) z _ r)
 changes e (Revoke r d) z = (given-lengths _ (Revoke r d) .0, holders-renewed (e .directory) (e .sessions) z _ r)
 changes e (Forward d x) z = (refl, record { stays = refl; kept = refl })
+changes e (Mandate r d) z = (refl, record { stays = refl; kept = refl })
 
 -- ---- an opening
 
@@ -388,26 +389,32 @@ late-linkable : Late (Refused Linkable)
 unfolding returned numberOf
 late-linkable why l h = omega (arith, ap returned h)
 
--- which of the last two rows is met
-lastRows : Bool → Bool → Verdict
-lastRows a b = bar a Changed (bar b Linkable Granted)
+-- which of the last two rows is met, outside a mandate
+lastRows : Bool → Bool → Bool → Verdict
+lastRows m a b = cond m Granted (bar a Changed (bar b Linkable Granted))
 
-last-rows : (a b : Bool) → ((lastRows a b ≡ Refused Changed) ↔ (a ≡ true)) × ((lastRows a b ≡ Refused Linkable) ↔ ((a ≡ false) × (b ≡ true))) × ((lastRows a b ≡ Granted) ↔ ((a ≡ false) × (b ≡ false)))
+last-rows : (m a b : Bool) → ((lastRows m a b ≡ Refused Changed) ↔ ((m ≡ false) × (a ≡ true))) × ((lastRows m a b ≡ Refused Linkable) ↔ ((m ≡ false) × (a ≡ false) × (b ≡ true)))
+    × ((lastRows m a b ≡ Granted) ↔ ((m ≡ true) ⊎ ((a ≡ false) × (b ≡ false))))
 unfolding lastRows
-last-rows true b = (
-  (λ h. refl, λ h. refl),
+last-rows true a b = (
   (λ h. let z : _≡_ {A = ℕ} 0 1 = cc in absurd (omega arith), λ h. absurd (true≢false (h .0))),
   (λ h. let z : _≡_ {A = ℕ} 0 1 = cc in absurd (omega arith), λ h. absurd (true≢false (h .0))),
+  (λ h. inl refl, λ h. refl),
 )
-last-rows false true = (
-  (λ h. let z : _≡_ {A = ℕ} 0 1 = cc in absurd (omega arith), λ h. absurd (true≢false (sym h))),
+last-rows false true b = (
   (λ h. (refl, refl), λ h. refl),
   (λ h. let z : _≡_ {A = ℕ} 0 1 = cc in absurd (omega arith), λ h. absurd (true≢false (h .1))),
+  (λ h. let z : _≡_ {A = ℕ} 0 1 = cc in absurd (omega arith), λ h. ⊎-elim (λ t. absurd (true≢false (sym t))) (λ t. absurd (true≢false (t .0))) h),
 )
-last-rows false false = (
-  (λ h. let z : _≡_ {A = ℕ} 0 1 = cc in absurd (omega arith), λ h. absurd (true≢false (sym h))),
+last-rows false false true = (
   (λ h. let z : _≡_ {A = ℕ} 0 1 = cc in absurd (omega arith), λ h. absurd (true≢false (sym (h .1)))),
-  (λ h. (refl, refl), λ h. refl),
+  (λ h. (refl, refl, refl), λ h. refl),
+  (λ h. let z : _≡_ {A = ℕ} 0 1 = cc in absurd (omega arith), λ h. ⊎-elim (λ t. absurd (true≢false (sym t))) (λ t. absurd (true≢false (t .1))) h),
+)
+last-rows false false false = (
+  (λ h. let z : _≡_ {A = ℕ} 0 1 = cc in absurd (omega arith), λ h. absurd (true≢false (sym (h .1)))),
+  (λ h. let z : _≡_ {A = ℕ} 0 1 = cc in absurd (omega arith), λ h. absurd (true≢false (sym (h .2)))),
+  (λ h. inr (refl, refl), λ h. refl),
 )
 
 verdict-read : (v : Verdict) → verdictOf (answerOf v) ≡ v
@@ -423,12 +430,15 @@ module _ (e : Engine) (p : Product) (u s f d : ℕ) where
   changedTest : Bool
   changedTest = ltb (versionOf e (sessionAt p s) f) (userVersion e u)
 
+  dutyTest : Bool
+  dutyTest = byDuty (e .directory .tables) (heldOf e u) d
+
   linkableTest : Bool
   linkableTest = links (e .sessions) (sessionAt p s) f (heldOf e u)
 
   -- a verdict by a later row than 12 passed the others
-  checked : (v : Verdict) → Late v → verdict e (Read p u s f d) ≡ v → Checked e p u s f d × (lastRows changedTest linkableTest ≡ v)
-  unfolding read numberOf lastRows changedTest linkableTest there
+  checked : (v : Verdict) → Late v → verdict e (Read p u s f d) ≡ v → Checked e p u s f d × (lastRows dutyTest changedTest linkableTest ≡ v)
+  unfolding read numberOf lastRows dutyTest changedTest linkableTest there
   checked v late h =
       let a = passed-over (leb userCount u) AboveLimit _ v (late AboveLimit (omega arith)) (sym is-read ∙ h) in
       let b = passed-over (leb databaseCount d) AboveLimit _ v (late AboveLimit (omega arith)) (a .1) in
@@ -451,8 +461,8 @@ module _ (e : Engine) (p : Product) (u s f d : ℕ) where
         m .1,
       )
 
-  settled : Checked e p u s f d → verdict e (Read p u s f d) ≡ lastRows changedTest linkableTest
-  unfolding read lastRows changedTest linkableTest there
+  settled : Checked e p u s f d → verdict e (Read p u s f d) ≡ lastRows dutyTest changedTest linkableTest
+  unfolding read lastRows dutyTest changedTest linkableTest there
   settled k =
       is-read
       ∙ rw (
@@ -466,7 +476,14 @@ module _ (e : Engine) (p : Product) (u s f d : ℕ) where
         meets-means roleCount (heldOf e u) (getD (e .directory .tables .readers) d 0) .1 (k .permitted),
       )
 
-  -- the two tests
+  -- the three tests
+  is-duty : (dutyTest ≡ true) ↔ UnderMandate e u d
+  unfolding dutyTest byDuty there
+  is-duty = meets-means roleCount (heldOf e u) (getD (e .directory .tables .mandates) d 0)
+
+  no-duty : (dutyTest ≡ false) ↔ (UnderMandate e u d → ⊥)
+  no-duty = (λ h m. true≢false (sym (is-duty .1 m) ∙ h), λ n. ⊎-elim (λ (t : dutyTest ≡ true). absurd (n (is-duty .0 t))) (λ t. t) (true-or-false dutyTest))
+
   is-changed : (changedTest ≡ true) ↔ (versionOf e (sessionAt p s) f < userVersion e u)
   unfolding changedTest
   is-changed = (ltb-true (versionOf e (sessionAt p s) f) (userVersion e u), lt-ltb (versionOf e (sessionAt p s) f) (userVersion e u))
@@ -481,25 +498,27 @@ module _ (e : Engine) (p : Product) (u s f d : ℕ) where
 
   pub read-means : ReadMeans e p u s f d
   read-means =
-      let w = last-rows changedTest linkableTest in
+      let w = last-rows dutyTest changedTest linkableTest in
       record {
         changed = (
-          λ h. let k = checked (Refused Changed) late-changed h in (k .0, is-changed .0 (w .0 .0 (k .1))),
-          λ r. settled (r .0) ∙ w .0 .1 (is-changed .1 (r .1)),
+          λ h.
+              let k = checked (Refused Changed) late-changed h in
+              let t = w .0 .0 (k .1) in
+              (k .0, no-duty .0 (t .0), is-changed .0 (t .1)),
+          λ r. settled (r .0) ∙ w .0 .1 (no-duty .1 (r .1), is-changed .1 (r .2)),
         );
         linkable = (
           λ h.
               let k = checked (Refused Linkable) late-linkable h in
               let t = w .1 .0 (k .1) in
-              (k .0, is-unchanged .0 (t .0), is-linked .0 (t .1)),
-          λ r. settled (r .0) ∙ w .1 .1 (is-unchanged .1 (r .1), is-linked .1 (r .2)),
+              (k .0, no-duty .0 (t .0), is-unchanged .0 (t .1), is-linked .0 (t .2)),
+          λ r. settled (r .0) ∙ w .1 .1 (no-duty .1 (r .1), is-unchanged .1 (r .2), is-linked .1 (r .3)),
         );
         granted = (
           λ h.
               let k = checked Granted late-granted h in
-              let t = w .2 .0 (k .1) in
-              (k .0, is-unchanged .0 (t .0), λ m. true≢false (sym (is-linked .1 m) ∙ t .1)),
-          λ r. settled (r .0) ∙ w .2 .1 (is-unchanged .1 (r .1), ⊎-elim (λ (t : linkableTest ≡ true). absurd (r .2 (is-linked .0 t))) (λ t. t) (true-or-false linkableTest)),
+              (k .0, ⊎-elim (λ t. inl (is-duty .0 t)) (λ t. inr (is-unchanged .0 (t .0), λ m. true≢false (sym (is-linked .1 m) ∙ t .1))) (w .2 .0 (k .1))),
+          λ r. settled (r .0) ∙ w .2 .1 (⊎-elim (λ m. inl (is-duty .1 m)) (λ t. inr (is-unchanged .1 (t .0), ⊎-elim (λ (x : linkableTest ≡ true). absurd (t .1 (is-linked .0 x))) (λ x. x) (true-or-false linkableTest))) (r .1)),
         );
       }
 

@@ -18,9 +18,9 @@ use Rattle.tables.specs.Tables.{fresh as emptyTables}
 use Rattle.model.specs.declared.Directory.{Directory}
 use Rattle.model.specs.declared.Engine.{Engine}
 use Rattle.model.specs.declared.calls.Refusal.{Refusal}
-use Rattle.model.specs.declared.calls.Refusal.the-variants.{Malformed, AboveLimit, AlreadyThere, NotThere, FlowAdded, NotOpen, SessionFull, NotConflicting, VersionsSpent, NoSuchFlow, OutOfReach, NoPermission, Changed, Linkable}
+use Rattle.model.specs.declared.calls.Refusal.the-variants.{Malformed, AboveLimit, AlreadyThere, NotThere, FlowAdded, NotOpen, SessionFull, NotConflicting, VersionsSpent, NoSuchFlow, OutOfReach, NoPermission, Changed, Linkable, Mandated}
 use Rattle.model.specs.declared.calls.Change.{Change}
-use Rattle.model.specs.declared.calls.Change.the-variants.{Assign, Withdraw, Permit, Revoke, Forward}
+use Rattle.model.specs.declared.calls.Change.the-variants.{Assign, Withdraw, Permit, Revoke, Forward, Mandate}
 use Rattle.model.specs.declared.calls.Product.{Product}
 use Rattle.model.specs.declared.calls.Ask.{Ask}
 use Rattle.model.specs.declared.calls.Ask.the-variants.{Open, Conflicting, Add, Show}
@@ -71,6 +71,7 @@ sized-fresh = record {
   roles = length-replicate {A = ℕ} userCount 0;
   readers = length-replicate {A = ℕ} databaseCount 0;
   forwards = length-replicate {A = ℕ} databaseCount 0;
+  mandates = length-replicate {A = ℕ} databaseCount 0;
   users = length-replicate {A = ℕ} userCount 0;
   counts = length-replicate {A = ℕ} allSessions 0;
   roots = length-replicate {A = ℕ} placeCount 0;
@@ -102,6 +103,7 @@ given-lengths D (Withdraw u r) = (refl, refl)
 given-lengths D (Permit r d) = holders-lengths D r
 given-lengths D (Revoke r d) = holders-lengths D r
 given-lengths D (Forward d x) = (refl, refl)
+given-lengths D (Mandate r d) = (refl, refl)
 
 sized-change : (e : Engine) (c : Change) → Sized e → Sized (engineOf (changedDirectory (e .directory) c) (e .sessions))
 unfolding changedDirectory
@@ -113,6 +115,7 @@ sized-change e c z =
       roles = ap (λ (T : Tables). length (T .roles)) (g .0) ∙ t .0 ∙ z .roles;
       readers = ap (λ (T : Tables). length (T .readers)) (g .0) ∙ t .1 ∙ z .readers;
       forwards = ap (λ (T : Tables). length (T .forwards)) (g .0) ∙ t .2 ∙ z .forwards;
+      mandates = ap (λ (T : Tables). length (T .mandates)) (g .0) ∙ t .3 ∙ z .mandates;
       users = g .1 ∙ z .users;
       counts = z .counts;
       roots = z .roots;
@@ -138,6 +141,7 @@ sized-ask e p s Open z h = record {
   roles = z .roles;
   readers = z .readers;
   forwards = z .forwards;
+  mandates = z .mandates;
   users = z .users;
   counts = z .counts;
   roots = z .roots;
@@ -156,6 +160,7 @@ sized-ask e p s (Add root chosen) z h =
       roles = z .roles;
       readers = z .readers;
       forwards = z .forwards;
+      mandates = z .mandates;
       users = z .users;
       counts = length-set (e .sessions .counts) (sessionAt p s) _ ∙ z .counts;
       roots = length-set (e .sessions .roots) _ _ ∙ z .roots;
@@ -185,7 +190,7 @@ pub seen-fresh : seen fresh ≡ start
 unfolding seen fresh emptyTables start there
 seen-fresh =
     same-ledger (seen fresh) start (λ u r. nothing (ltb r roleCount) _ r (getD-same {A = ℕ} userCount u 0)) (λ r d. nothing (ltb r roleCount) _ r (getD-same {A = ℕ} databaseCount d 0))
-    (λ d x. nothing (ltb x databaseCount) _ x (getD-same {A = ℕ} databaseCount d 0)) refl (λ u. getD-same {A = ℕ} userCount u 0) (λ p s. has-empty (sessionAt p s))
+    (λ d x. nothing (ltb x databaseCount) _ x (getD-same {A = ℕ} databaseCount d 0)) (λ r d. nothing (ltb r roleCount) _ r (getD-same {A = ℕ} databaseCount d 0)) refl (λ u. getD-same {A = ℕ} userCount u 0) (λ p s. has-empty (sessionAt p s))
     (λ p s. ap (λ (n : ℕ). listOf n (flowSeen fresh (sessionAt p s))) (getD-same {A = ℕ} allSessions (sessionAt p s) 0) ∙ listOf-zero (flowSeen fresh (sessionAt p s)))
 
 -- ---- the ledger takes each call as the engine does
@@ -223,6 +228,7 @@ refused-number OutOfReach = refl
 refused-number NoPermission = refl
 refused-number Changed = refl
 refused-number Linkable = refl
+refused-number Mandated = refl
 
 -- a call other than a read
 seen-other : (e : Engine) (c : Call) → isRead c ≡ false → Sized e → seen (after e c) ≡ ledgerStep (seen e) c

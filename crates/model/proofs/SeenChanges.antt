@@ -19,12 +19,12 @@ use Rattle.rows.specs.Rows.{entered as rowEntered}
 use Rattle.rows.specs.Reach.{reach}
 use Rattle.rows.proofs.Meaning.{there-entered, there-struck}
 use Rattle.tables.specs.declared.Tables.{Tables}
-use Rattle.tables.specs.Tables.{userCount, roleCount, databaseCount, holds, mayRead, forwardsTo, heldBy, assigned, withdrawn, permitted, revoked, forwarded, withRoles, withReaders, withForwards}
+use Rattle.tables.specs.Tables.{userCount, roleCount, databaseCount, holds, mayRead, forwardsTo, hasMandate, heldBy, assigned, withdrawn, permitted, revoked, forwarded, mandated, withRoles, withReaders, withForwards, withMandates}
 use Rattle.model.specs.declared.Directory.{Directory}
 use Rattle.model.specs.declared.Sessions.{Sessions}
 use Rattle.model.specs.declared.Engine.{Engine}
 use Rattle.model.specs.declared.calls.Change.{Change}
-use Rattle.model.specs.declared.calls.Change.the-variants.{Assign, Withdraw, Permit, Revoke, Forward}
+use Rattle.model.specs.declared.calls.Change.the-variants.{Assign, Withdraw, Permit, Revoke, Forward, Mandate}
 use Rattle.model.specs.declared.calls.Product.{Product}
 use Rattle.model.specs.declared.calls.Ask.the-variants.{Open, Add}
 use Rattle.model.specs.Limits.{sessionCount, flowCount}
@@ -41,12 +41,13 @@ use Rattle.model.proofs.SeenRows.{and-swap, holds-seen, reach-seen, Wit
 
 -- ---- two ledgers are equal where they say the same
 
-pub same-ledger : (a b : Ledger) → ((u r : ℕ) → a .holds u r ≡ b .holds u r) → ((r d : ℕ) → a .mayRead r d ≡ b .mayRead r d) → ((d x : ℕ) → a .forwards d x ≡ b .forwards d x)
+pub same-ledger : (a b : Ledger) → ((u r : ℕ) → a .holds u r ≡ b .holds u r) → ((r d : ℕ) → a .mayRead r d ≡ b .mayRead r d) → ((d x : ℕ) → a .forwards d x ≡ b .forwards d x) → ((r d : ℕ) → a .mandated r d ≡ b .mandated r d)
     → a .system ≡ b .system → ((u : ℕ) → a .version u ≡ b .version u) → ((p : Product) (s : ℕ) → a .opened p s ≡ b .opened p s) → ((p : Product) (s : ℕ) → a .flows p s ≡ b .flows p s) → a ≡ b
-same-ledger a b holds reading forwards system version opened flows = λ i. record {
+same-ledger a b holds reading forwards mandates system version opened flows = λ i. record {
   holds = λ u r. holds u r i;
   mayRead = λ r d. reading r d i;
   forwards = λ d x. forwards d x i;
+  mandated = λ r d. mandates r d i;
   system = system i;
   version = λ u. version u i;
   opened = λ p s. opened p s i;
@@ -63,7 +64,7 @@ nothing false x i e = refl
 -- nobody is due one
 pub renewed-none : (l : Ledger) → renewed l (λ w. false) ≡ l
 unfolding renewed
-renewed-none l = same-ledger (renewed l (λ w. false)) l (λ u r. refl) (λ r d. refl) (λ d x. refl) (ap (λ (b : Bool). cond b (l .system + 1) (l .system)) (some-nowhere userCount (λ w. false) (λ w m. refl))) (λ u. refl) (λ p s. refl) (λ p s. refl)
+renewed-none l = same-ledger (renewed l (λ w. false)) l (λ u r. refl) (λ r d. refl) (λ d x. refl) (λ r d. refl) (ap (λ (b : Bool). cond b (l .system + 1) (l .system)) (some-nowhere userCount (λ w. false) (λ w m. refl))) (λ u. refl) (λ p s. refl) (λ p s. refl)
 
 -- a test that holds for nobody below n, and for nobody above
 due-none : (n : ℕ) (who : ℕ → Bool) → ((w : ℕ) → n ≤ w → who w ≡ false) → some n who ≡ false → (w : ℕ) → who w ≡ false
@@ -79,7 +80,7 @@ module _ (D : Directory) (S : Sessions) (size : length (D .versions) ≡ userCou
   pub renewed-some : (who : ℕ → Bool) → ((w : ℕ) → userCount ≤ w → who w ≡ false) → some userCount who ≡ true → seen (engineOf (newVersion D who) S) ≡ renewed (seen (engineOf D S)) who
   unfolding seen flowSeen newVersion renewed
   renewed-some who past h =
-      same-ledger (seen (engineOf (newVersion D who) S)) (renewed (seen (engineOf D S)) who) (λ u r. refl) (λ r d. refl) (λ d x. refl)
+      same-ledger (seen (engineOf (newVersion D who) S)) (renewed (seen (engineOf D S)) who) (λ u r. refl) (λ r d. refl) (λ d x. refl) (λ r d. refl)
       (ap (λ (b : Bool). cond b (D .version + 1) (D .version)) (sym h)) (λ w. go w (decLt w userCount)) (λ p s. refl) (λ p s. refl)
     where
       go : (w : ℕ) → Dec (w < userCount) → getD (given who (D .version + 1) userCount (D .versions)) w 0 ≡ cond (who w) (D .version + 1) (getD (D .versions) w 0)
@@ -109,6 +110,7 @@ given-seen D S (Withdraw u r) size rows w = sym (renewed-none (seen (engineOf D 
 given-seen D S (Permit r d) size rows w = holders-seen D S size r rows (w .0)
 given-seen D S (Revoke r d) size rows w = holders-seen D S size r rows (w .0)
 given-seen D S (Forward d x) size rows w = sym (renewed-none (seen (engineOf D S)))
+given-seen D S (Mandate r d) size rows w = sym (renewed-none (seen (engineOf D S)))
 
 -- ---- tables
 
@@ -132,21 +134,23 @@ module _ (n : ℕ) (rows : List ℕ) (a b c d : ℕ) (l : a < length rows) (k : 
   minus-seen = bound-cases n d _ _ (λ h. there-struck n rows a b c d l h ∙ rw (lt-ltb d n h)) (λ h. rw (le-ltb d n h))
 
 -- other tables
-tables-seen : (e : Engine) (T : Tables) (h m f : ℕ → ℕ → Bool) → ((u r : ℕ) → (ltb r roleCount && holds T u r) ≡ h u r) → ((r d : ℕ) → (ltb r roleCount && mayRead T r d) ≡ m r d) → ((d x : ℕ) → (ltb x databaseCount && forwardsTo T d x) ≡ f d x)
-    → seen (engineOf (withNewTables (e .directory) T) (e .sessions)) ≡ withTables (seen e) h m f
+tables-seen : (e : Engine) (T : Tables) (h m f o : ℕ → ℕ → Bool) → ((u r : ℕ) → (ltb r roleCount && holds T u r) ≡ h u r) → ((r d : ℕ) → (ltb r roleCount && mayRead T r d) ≡ m r d) → ((d x : ℕ) → (ltb x databaseCount && forwardsTo T d x) ≡ f d x)
+    → ((r d : ℕ) → (ltb r roleCount && hasMandate T r d) ≡ o r d) → seen (engineOf (withNewTables (e .directory) T) (e .sessions)) ≡ withTables (seen e) h m f o
 unfolding seen flowSeen
-tables-seen e T h m f p q r = same-ledger (seen (engineOf (withNewTables (e .directory) T) (e .sessions))) (withTables (seen e) h m f) p q r refl (λ w. refl) (λ q s. refl) (λ q s. refl)
+tables-seen e T h m f o p q r t = same-ledger (seen (engineOf (withNewTables (e .directory) T) (e .sessions))) (withTables (seen e) h m f o) p q r t refl (λ w. refl) (λ q s. refl) (λ q s. refl)
 
 -- the pair is entered or struck out
 same-tables : (e : Engine) → Sized e → (c : Change) → Within c → seen (engineOf (withNewTables (e .directory) (changedTables (e .directory .tables) c)) (e .sessions)) ≡ entered (seen e) c
-unfolding seen flowSeen changedTables assigned withdrawn permitted revoked forwarded withRoles withReaders withForwards entered plus minus
-same-tables e z (Assign u r) w = tables-seen e _ _ _ _ (λ v q. plus-seen roleCount (e .directory .tables .roles) u r v q (omega (arith, z .roles)) (w .1)) (λ q d. refl) (λ d x. refl)
-same-tables e z (Withdraw u r) w = tables-seen e _ _ _ _ (λ v q. minus-seen roleCount (e .directory .tables .roles) u r v q (omega (arith, z .roles)) (w .1)) (λ q d. refl) (λ d x. refl)
+unfolding seen flowSeen changedTables assigned withdrawn permitted revoked forwarded mandated withRoles withReaders withForwards withMandates entered plus minus
+same-tables e z (Assign u r) w = tables-seen e _ _ _ _ _ (λ v q. plus-seen roleCount (e .directory .tables .roles) u r v q (omega (arith, z .roles)) (w .1)) (λ q d. refl) (λ d x. refl) (λ q d. refl)
+same-tables e z (Withdraw u r) w = tables-seen e _ _ _ _ _ (λ v q. minus-seen roleCount (e .directory .tables .roles) u r v q (omega (arith, z .roles)) (w .1)) (λ q d. refl) (λ d x. refl) (λ q d. refl)
 same-tables e z (Permit r d) w =
-    tables-seen e _ _ _ _ (λ v q. refl) (λ q x. plus-seen roleCount (e .directory .tables .readers) d r x q (omega (arith, z .readers)) (w .0) ∙ ap (λ (b : Bool). seen e .mayRead q x || b) (and-swap (eqb x d) (eqb q r))) (λ d x. refl)
+    tables-seen e _ _ _ _ _ (λ v q. refl) (λ q x. plus-seen roleCount (e .directory .tables .readers) d r x q (omega (arith, z .readers)) (w .0) ∙ ap (λ (b : Bool). seen e .mayRead q x || b) (and-swap (eqb x d) (eqb q r))) (λ d x. refl) (λ q d. refl)
 same-tables e z (Revoke r d) w =
-    tables-seen e _ _ _ _ (λ v q. refl) (λ q x. minus-seen roleCount (e .directory .tables .readers) d r x q (omega (arith, z .readers)) (w .0) ∙ ap (λ (b : Bool). seen e .mayRead q x && not b) (and-swap (eqb x d) (eqb q r))) (λ d x. refl)
-same-tables e z (Forward d x) w = tables-seen e _ _ _ _ (λ v q. refl) (λ q y. refl) (λ y q. plus-seen databaseCount (e .directory .tables .forwards) d x y q (omega (arith, z .forwards)) (w .1))
+    tables-seen e _ _ _ _ _ (λ v q. refl) (λ q x. minus-seen roleCount (e .directory .tables .readers) d r x q (omega (arith, z .readers)) (w .0) ∙ ap (λ (b : Bool). seen e .mayRead q x && not b) (and-swap (eqb x d) (eqb q r))) (λ d x. refl) (λ q d. refl)
+same-tables e z (Forward d x) w = tables-seen e _ _ _ _ _ (λ v q. refl) (λ q y. refl) (λ y q. plus-seen databaseCount (e .directory .tables .forwards) d x y q (omega (arith, z .forwards)) (w .1)) (λ q y. refl)
+same-tables e z (Mandate r d) w =
+    tables-seen e _ _ _ _ _ (λ v q. refl) (λ q x. refl) (λ d x. refl) (λ q x. plus-seen roleCount (e .directory .tables .mandates) d r x q (omega (arith, z .mandates)) (w .0) ∙ ap (λ (b : Bool). seen e .mandated q x || b) (and-swap (eqb x d) (eqb q r)))
 
 -- the pair is nothing to who is due a new version
 due-entered : (l : Ledger) (c : Change) → due (entered l c) c ≡ due l c
@@ -156,15 +160,17 @@ due-entered l (Withdraw u r) = refl
 due-entered l (Permit r d) = refl
 due-entered l (Revoke r d) = refl
 due-entered l (Forward d x) = refl
+due-entered l (Mandate r d) = refl
 
 -- the tables keep their lengths
-pub same-lengths : (T : Tables) (c : Change) → (length (changedTables T c .roles) ≡ length (T .roles)) × (length (changedTables T c .readers) ≡ length (T .readers)) × (length (changedTables T c .forwards) ≡ length (T .forwards))
-unfolding changedTables assigned withdrawn permitted revoked forwarded withRoles withReaders withForwards rowEntered struck
-same-lengths T (Assign u r) = (length-set (T .roles) u _, refl, refl)
-same-lengths T (Withdraw u r) = (length-set (T .roles) u _, refl, refl)
-same-lengths T (Permit r d) = (refl, length-set (T .readers) d _, refl)
-same-lengths T (Revoke r d) = (refl, length-set (T .readers) d _, refl)
-same-lengths T (Forward d x) = (refl, refl, length-set (T .forwards) d _)
+pub same-lengths : (T : Tables) (c : Change) → (length (changedTables T c .roles) ≡ length (T .roles)) × (length (changedTables T c .readers) ≡ length (T .readers)) × (length (changedTables T c .forwards) ≡ length (T .forwards)) × (length (changedTables T c .mandates) ≡ length (T .mandates))
+unfolding changedTables assigned withdrawn permitted revoked forwarded mandated withRoles withReaders withForwards withMandates rowEntered struck
+same-lengths T (Assign u r) = (length-set (T .roles) u _, refl, refl, refl)
+same-lengths T (Withdraw u r) = (length-set (T .roles) u _, refl, refl, refl)
+same-lengths T (Permit r d) = (refl, length-set (T .readers) d _, refl, refl)
+same-lengths T (Revoke r d) = (refl, length-set (T .readers) d _, refl, refl)
+same-lengths T (Forward d x) = (refl, refl, length-set (T .forwards) d _, refl)
+same-lengths T (Mandate r d) = (refl, refl, refl, length-set (T .mandates) d _)
 
 pub same-change : (e : Engine) → Sized e → (c : Change) → Within c → seen (engineOf (changedDirectory (e .directory) c) (e .sessions)) ≡ renewed (entered (seen e) c) (due (seen e) c)
 unfolding changedDirectory
@@ -184,7 +190,7 @@ module _ (e : Engine) (z : Sized e) (p : Product) (s : ℕ) (l : s < sessionCoun
   pub same-open : has (e .sessions .opened) (sessionAt p s) ≡ false → seen (engineOf (e .directory) (sessionOpened (e .sessions) (sessionAt p s))) ≡ asked (seen e) p s Open
   unfolding seen flowSeen sessionOpened asked withFlows
   same-open o =
-      same-ledger (seen (engineOf (e .directory) (sessionOpened (e .sessions) (sessionAt p s)))) (asked (seen e) p s Open) (λ w q. refl) (λ q d. refl) (λ d x. refl) refl (λ w. refl)
+      same-ledger (seen (engineOf (e .directory) (sessionOpened (e .sessions) (sessionAt p s)))) (asked (seen e) p s Open) (λ w q. refl) (λ q d. refl) (λ d x. refl) (λ q d. refl) refl (λ w. refl)
       (λ q t. has-inserted 64 (e .sessions .opened) (sessionAt p s) (sessionAt q t) (omega (arith, session-most q t)) ∙ ap (λ (b : Bool). has (e .sessions .opened) (sessionAt q t) || b) (session-one q p t s l))
       (λ q t. rw (← session-one q p t s l) (go q t (eqb (sessionAt q t) (sessionAt p s)) refl))
     where
@@ -280,7 +286,7 @@ module _ (e : Engine) (z : Sized e) (p : Product) (s root chosen : ℕ) (l : s <
   pub same-add : seen (engineOf (e .directory) (changedSessions (e .directory) (e .sessions) (sessionAt p s) (Add root chosen))) ≡ asked (seen e) p s (Add root chosen)
   unfolding n new deny put changedSessions withFlow seen asked withFlows
   same-add =
-      same-ledger (seen put) (asked (seen e) p s (Add root chosen)) (λ w q. refl) (λ q d. refl) (λ d x. refl) refl (λ w. refl)
+      same-ledger (seen put) (asked (seen e) p s (Add root chosen)) (λ w q. refl) (λ q d. refl) (λ d x. refl) (λ q d. refl) refl (λ w. refl)
       (λ q t. rw (← session-one q p t s l) (still q t (eqb (sessionAt q t) (sessionAt p s)) refl)) (λ q t. rw (← session-one q p t s l) (flows q t (eqb (sessionAt q t) (sessionAt p s)) refl))
     where
       still : (q : Product) (t : ℕ) (b : Bool) → eqb (sessionAt q t) (sessionAt p s) ≡ b → seen e .opened q t ≡ (seen e .opened q t || b)

@@ -12,12 +12,12 @@ use Rattle.sets.specs.Sets.{has, some, count, joined, meeting}
 use Rattle.sets.proofs.Laws.{or-neither, some-at, some-cong, count-cong, has-setOf, has-inserted, has-joined, has-empty}
 use Rattle.rows.specs.Rows.{there, image}
 use Rattle.rows.specs.Reach.{onward, level, reach}
-use Rattle.tables.specs.Tables.{userCount, roleCount, databaseCount, holds, mayRead, forwardsTo, heldBy, staticallyReads}
+use Rattle.tables.specs.Tables.{userCount, roleCount, databaseCount, holds, mayRead, forwardsTo, hasMandate, heldBy, staticallyReads}
 use Rattle.model.specs.declared.Engine.{Engine}
 use Rattle.model.specs.declared.calls.Refusal.{Refusal}
-use Rattle.model.specs.declared.calls.Refusal.the-variants.{Malformed, AboveLimit, AlreadyThere, NotThere, FlowAdded, NotOpen, SessionFull, NotConflicting, VersionsSpent, NoSuchFlow, OutOfReach, NoPermission, Changed, Linkable}
+use Rattle.model.specs.declared.calls.Refusal.the-variants.{Malformed, AboveLimit, AlreadyThere, NotThere, FlowAdded, NotOpen, SessionFull, NotConflicting, VersionsSpent, NoSuchFlow, OutOfReach, NoPermission, Changed, Linkable, Mandated}
 use Rattle.model.specs.declared.calls.Change.{Change}
-use Rattle.model.specs.declared.calls.Change.the-variants.{Assign, Withdraw, Permit, Revoke, Forward}
+use Rattle.model.specs.declared.calls.Change.the-variants.{Assign, Withdraw, Permit, Revoke, Forward, Mandate}
 use Rattle.model.specs.declared.calls.Product.{Product}
 use Rattle.model.specs.declared.calls.Product.the-variants.{Server, TermBank}
 use Rattle.model.specs.declared.calls.Ask.{Ask}
@@ -29,13 +29,13 @@ use Rattle.model.specs.declared.calls.Verdict.the-variants.{Granted, Ref
 use Rattle.model.specs.declared.calls.Answer.the-variants.{Granted as Answer·Granted}
 use Rattle.model.specs.Limits.{sessionCount, flowCount, lastVersion}
 use Rattle.model.specs.State.{allSessions, firstOf, sessionAt, engineOf, place, anyFlow, reachWith, conflicts, outside, denyBefore}
-use Rattle.model.specs.Calls.{numberOf, returned, verdictOf, Done, done, told, assign, withdraw, permit, revoke, forward, change, flowsIn, openSession, conflictsIn, conflicting, withFlow, add, show, ask, links, read, answerOf, step, answer, verdict, after}
+use Rattle.model.specs.Calls.{numberOf, returned, verdictOf, Done, done, told, assign, withdraw, permit, revoke, forward, mandate, change, flowsIn, openSession, conflictsIn, conflicting, withFlow, add, show, ask, links, byDuty, bar, read, answerOf, step, answer, verdict, after}
 use Rattle.model.specs.Calls.{spent as noneLeft}
-use Rattle.model.specs.Ledger.{Ledger, Flow, flowOf, leadsWithin, reachOf, reads, readsTwoOf, isConflicting, linked}
-use Rattle.model.specs.Refusals.{due, spent, flowAdded, newFlow, changeRows, askRows, readRows, rows, firstMet, refusal, accepts}
+use Rattle.model.specs.Ledger.{Ledger, Flow, flowOf, leadsWithin, reachOf, reads, readsTwoOf, isConflicting, linked, underMandate}
+use Rattle.model.specs.Refusals.{due, spent, flowAdded, newFlow, changeRows, askRows, checkRows, readRows, rows, firstMet, refusal, accepts}
 use Rattle.model.specs.Demands.{flowSeen, seen, storedLinkable, isRead}
 use Rattle.model.proofs.Laws.{length-snoc, length-listOf, getD-listOf, getD-snoc, or-assoc, some-parts, session-there, session-limit}
-use Rattle.model.proofs.Chains.{Checked, changing, asking, reading, all-passed, stopped, check-or, check, check-two, within, not-met}
+use Rattle.model.proofs.Chains.{Checked, changing, asking, reading, all-passed, stopped, missed, check-or, check, check-two, within, not-met}
 use Rattle.model.proofs.Granted.{changedDirectory, changedTables, givenBy, sessionOpened, changedSessions, askAnswer, changed, accepted}
 
 -- what is below its limit passes the ledger's bound
@@ -65,6 +65,10 @@ permits-seen e r d l = bounded roleCount r (mayRead (e .directory .tables) r d) 
 pub forwards-seen : (e : Engine) (d x : ℕ) → x < databaseCount → forwardsTo (e .directory .tables) d x ≡ seen e .forwards d x
 unfolding seen
 forwards-seen e d x l = bounded databaseCount x (forwardsTo (e .directory .tables) d x) l
+
+pub mandates-seen : (e : Engine) (r d : ℕ) → r < roleCount → hasMandate (e .directory .tables) r d ≡ seen e .mandated r d
+unfolding seen
+mandates-seen e r d l = bounded roleCount r (hasMandate (e .directory .tables) r d) l
 
 pub opened-seen : (e : Engine) (p : Product) (s : ℕ) → has (e .sessions .opened) (sessionAt p s) ≡ seen e .opened p s
 unfolding seen
@@ -109,6 +113,12 @@ meets-seen : (e : Engine) (u d : ℕ) → meeting roleCount (getD (e .directory 
 unfolding meeting there
 meets-seen e u d =
     some-cong roleCount (λ r. holds (e .directory .tables) u r && mayRead (e .directory .tables) r d) (λ r. seen e .holds u r && seen e .mayRead r d) (λ r l. and-same (holds-seen e u r l) (permits-seen e r d l))
+
+-- a role of the user has a mandate at the database
+duty-seen : (e : Engine) (u d : ℕ) → byDuty (e .directory .tables) (getD (e .directory .tables .roles) u 0) d ≡ underMandate (seen e) u d
+unfolding byDuty underMandate meeting there
+duty-seen e u d =
+    some-cong roleCount (λ r. holds (e .directory .tables) u r && hasMandate (e .directory .tables) r d) (λ r. seen e .holds u r && seen e .mandated r d) (λ r l. and-same (holds-seen e u r l) (mandates-seen e r d l))
 
 -- ---- the flows of a session
 
@@ -205,7 +215,7 @@ stored e p u s f = refl
 -- ---- every check against every row, group by group
 
 checked-change : (e : Engine) (c : Change) → Checked (e .directory) (changeRows (seen e) c) (told (changedDirectory (e .directory) c)) (change (e .directory) (e .sessions .counts) c)
-unfolding change assign withdraw permit revoke forward changeRows changedDirectory changedTables givenBy numberOf verdictOf spent due seen
+unfolding change assign withdraw permit revoke forward mandate changeRows changedDirectory changedTables givenBy numberOf verdictOf spent due seen
 checked-change e (Assign u r) =
     let k = changing (e .directory) in
     check-two k AboveLimit _ (leb userCount u) (leb roleCount r)
@@ -224,12 +234,18 @@ checked-change e (Revoke r d) =
     let k = changing (e .directory) in
     check-two k AboveLimit _ (leb roleCount r) (leb databaseCount d)
     (λ a b. check k NotThere _ (ap not (permits-seen e r d (leb-false roleCount r a)))
-    (λ h. check k VersionsSpent _ (last-held e r (leb-false roleCount r a)) (λ j. all-passed (e .directory) _ _ refl)))
+    (λ h. check k Mandated _ (mandates-seen e r d (leb-false roleCount r a))
+    (λ i. check k VersionsSpent _ (last-held e r (leb-false roleCount r a)) (λ j. all-passed (e .directory) _ _ refl))))
 checked-change e (Forward d x) =
     let k = changing (e .directory) in
     check-two k AboveLimit _ (leb databaseCount d) (leb databaseCount x)
     (λ a b. check k FlowAdded _ (any-seen e)
     (λ h. check k AlreadyThere _ (forwards-seen e d x (leb-false databaseCount x b)) (λ j. all-passed (e .directory) _ _ refl)))
+checked-change e (Mandate r d) =
+    let k = changing (e .directory) in
+    check-two k AboveLimit _ (leb roleCount r) (leb databaseCount d)
+    (λ a b. check k AlreadyThere _ (mandates-seen e r d (leb-false roleCount r a))
+    (λ h. check k NotThere _ (ap not (permits-seen e r d (leb-false roleCount r a))) (λ j. all-passed (e .directory) _ _ refl)))
 
 -- row 2 by all sessions is row 2 by the product's own
 or-limit : (p : Product) (s : ℕ) (b : Bool) → (leb sessionCount s || b) ≡ (leb allSessions (sessionAt p s) || b)
@@ -262,9 +278,19 @@ checked-ask e p s (Show f) =
     (λ b. check k NotOpen _ (ap not (opened-seen e p s))
     (λ h. check k NoSuchFlow _ (ap (λ (n : ℕ). leb n f) (sym (length-flows e p s))) (λ j. all-passed (e .sessions) _ _ refl))))
 
+-- the last two rows of a read, which a mandate passes
+checked-late : (e : Engine) {m a b m′ a′ b′ : Bool} → m ≡ m′ → a ≡ a′ → b ≡ b′
+    → Checked e ((13, not m′ && a′) ∷ (14, not m′ && b′) ∷ []) (done Answer·Granted e) (done (answerOf (cond m Granted (bar a Changed (bar b Linkable Granted)))) e)
+unfolding reading answerOf numberOf verdictOf
+checked-late e {m} {a} {b} {m′} {a′} {b′} h i j = rw h (go m′)
+  where
+    go : (x : Bool) → Checked e ((13, not x && a′) ∷ (14, not x && b′) ∷ []) (done Answer·Granted e) (done (answerOf (cond x Granted (bar a Changed (bar b Linkable Granted)))) e)
+    go true = missed e 13 _ _ _ (missed e 14 _ _ _ (all-passed e _ _ refl))
+    go false = let k = reading e in check k Changed _ i (λ o. check k Linkable _ j (λ q. all-passed e _ _ refl))
+
 checked-read : (e : Engine) (p : Product) (u s f d : ℕ)
     → Checked e (readRows (seen e) (storedLinkable e) p u s f d) (done Answer·Granted e) (done (answerOf (read (e .directory) (e .sessions) u (sessionAt p s) f d)) e)
-unfolding read readRows reading answerOf numberOf verdictOf
+unfolding read checkRows readRows reading answerOf numberOf verdictOf
 checked-read e p u s f d =
     let k = reading e in
     check-or k AboveLimit _ (leb userCount u) (leb databaseCount d || (leb sessionCount s || leb flowCount f)) _ (or-assoc (leb userCount u) (leb databaseCount d) (leb sessionCount s || leb flowCount f))
@@ -275,8 +301,7 @@ checked-read e p u s f d =
     (λ h. check k NoSuchFlow _ (ap (λ (n : ℕ). leb n f) (sym (length-flows e p s)))
     (λ j. check k OutOfReach _ (ap not (reached e p s f d (leb-false databaseCount d b) (leb-false (flowsIn (e .sessions) (sessionAt p s)) f j)))
     (λ l. check k NoPermission _ (ap not (meets-seen e u d))
-    (λ n. check k Changed _ (outdated e p u s f (leb-false (flowsIn (e .sessions) (sessionAt p s)) f j))
-    (λ o. check k Linkable _ (stored e p u s f) (λ q. all-passed e _ _ refl))))))))))
+    (λ n. checked-late e (duty-seen e u d) (outdated e p u s f (leb-false (flowsIn (e .sessions) (sessionAt p s)) f j)) (stored e p u s f)))))))))
 
 pub checked : (e : Engine) (c : Call) → Checked e (rows (seen e) (storedLinkable e) c) (done (accepted e c) (changed e c)) (step e c)
 unfolding rows accepted changed step numberOf
@@ -348,6 +373,7 @@ Within (Withdraw u r) = (u < userCount) × (r < roleCount)
 Within (Permit r d) = (r < roleCount) × (d < databaseCount)
 Within (Revoke r d) = (r < roleCount) × (d < databaseCount)
 Within (Forward d x) = (d < databaseCount) × (x < databaseCount)
+Within (Mandate r d) = (r < roleCount) × (d < databaseCount)
 
 pub within-change : (e : Engine) (c : Change) → verdict e (Table c) ≡ Granted → Within c
 unfolding rows changeRows
@@ -356,6 +382,7 @@ within-change e (Withdraw u r) h = let a = both userCount roleCount u r _ (no-ro
 within-change e (Permit r d) h = let a = both roleCount databaseCount r d _ (no-row e (Table (Permit r d)) h) in (a .0, a .1)
 within-change e (Revoke r d) h = let a = both roleCount databaseCount r d _ (no-row e (Table (Revoke r d)) h) in (a .0, a .1)
 within-change e (Forward d x) h = let a = both databaseCount databaseCount d x _ (no-row e (Table (Forward d x)) h) in (a .0, a .1)
+within-change e (Mandate r d) h = let a = both roleCount databaseCount r d _ (no-row e (Table (Mandate r d)) h) in (a .0, a .1)
 
 -- and the session is not open
 pub within-open : (e : Engine) (p : Product) (s : ℕ) → verdict e (Session p s Open) ≡ Granted → (s < sessionCount) × (has (e .sessions .opened) (sessionAt p s) ≡ false)

@@ -9,16 +9,16 @@ use lib.ListN.{getD, set, replicate}
 use Rattle.sets.specs.Sets.{has, inserted, joined, meeting, sizeOf}
 use Rattle.rows.specs.Reach.{reach}
 use Rattle.tables.specs.declared.Tables.{Tables}
-use Rattle.tables.specs.Tables.{userCount, roleCount, databaseCount, holds, mayRead, forwardsTo, heldBy, assigned, withdrawn, permitted, revoked, forwarded}
+use Rattle.tables.specs.Tables.{userCount, roleCount, databaseCount, holds, mayRead, forwardsTo, hasMandate, heldBy, assigned, withdrawn, permitted, revoked, forwarded, mandated}
 use Rattle.model.specs.declared.Constraint.{Constraint}
 use Rattle.model.specs.declared.Directory.{Directory}
 use Rattle.model.specs.declared.Sessions.{Sessions}
 use Rattle.model.specs.declared.Engine.{Engine}
 use Rattle.model.specs.declared.Shown.{Shown}
 use Rattle.model.specs.declared.calls.Refusal.{Refusal}
-use Rattle.model.specs.declared.calls.Refusal.the-variants.{Malformed, AboveLimit, AlreadyThere, NotThere, FlowAdded, NotOpen, SessionFull, NotConflicting, VersionsSpent, NoSuchFlow, OutOfReach, NoPermission, Changed, Linkable}
+use Rattle.model.specs.declared.calls.Refusal.the-variants.{Malformed, AboveLimit, AlreadyThere, NotThere, FlowAdded, NotOpen, SessionFull, NotConflicting, VersionsSpent, NoSuchFlow, OutOfReach, NoPermission, Changed, Linkable, Mandated}
 use Rattle.model.specs.declared.calls.Change.{Change}
-use Rattle.model.specs.declared.calls.Change.the-variants.{Assign, Withdraw, Permit, Revoke, Forward}
+use Rattle.model.specs.declared.calls.Change.the-variants.{Assign, Withdraw, Permit, Revoke, Forward, Mandate}
 use Rattle.model.specs.declared.calls.Product.{Product}
 use Rattle.model.specs.declared.calls.Ask.{Ask}
 use Rattle.model.specs.declared.calls.Ask.the-variants.{Open, Conflicting, Add, Show}
@@ -31,7 +31,7 @@ use Rattle.model.specs.declared.calls.Answer.the-variants.{Version, Role
 use Rattle.model.specs.Limits.{flowCount, lastVersion}
 use Rattle.model.specs.State.{allSessions, sessionAt, directoryOf, sessionsOf, engineOf, filled, place, setPlace, anyFlow, reachWith, conflicts, outside, denyBefore, roleSet, rolesetAt, linkable, newVersion}
 
--- ---- the number of each refusal, as document 01's table has it
+-- ---- the number of each refusal, as document 01's table has it; 15 is K3's
 
 unfoldable pub numberOf : Refusal → ℕ
 numberOf Malformed = 1
@@ -48,6 +48,7 @@ numberOf OutOfReach = 11
 numberOf NoPermission = 12
 numberOf Changed = 13
 numberOf Linkable = 14
+numberOf Mandated = 15
 
 -- "00 accepted, else the number refused"
 unfoldable pub returned : Verdict → ℕ
@@ -91,7 +92,7 @@ bar false why later = later
 abbrev pub withTables : Directory → Tables → Directory
 withTables D T = directoryOf T (D .versions) (D .version)
 
--- "for 01–06 the system version"
+-- "for 01–06 the system version", and for 10
 abbrev pub told : Directory → Done Directory
 told D = done (Version (D .version)) D
 
@@ -129,14 +130,15 @@ permit D r d =
     (refuse (spent D r) VersionsSpent D
     (told (toHolders (withTables D (permitted (D .tables) r d)) r)))))
 
--- 04: rows 2, 4, 9
+-- 04: rows 2, 4, 15, 9
 unfoldable pub revoke : Directory → ℕ → ℕ → Done Directory
 revoke D r d =
     refuse (leb roleCount r) AboveLimit D
     (refuse (leb databaseCount d) AboveLimit D
     (refuse (not (mayRead (D .tables) r d)) NotThere D
+    (refuse (hasMandate (D .tables) r d) Mandated D
     (refuse (spent D r) VersionsSpent D
-    (told (toHolders (withTables D (revoked (D .tables) r d)) r)))))
+    (told (toHolders (withTables D (revoked (D .tables) r d)) r))))))
 
 -- 05: rows 2, 5, 3; `counts` tells how many flows each session has
 unfoldable pub forward : Directory → List ℕ → ℕ → ℕ → Done Directory
@@ -146,6 +148,15 @@ forward D counts d e =
     (refuse (anyFlow counts) FlowAdded D
     (refuse (forwardsTo (D .tables) d e) AlreadyThere D
     (told (withTables D (forwarded (D .tables) d e))))))
+
+-- 10 (K3): rows 2, 3, 4
+unfoldable pub mandate : Directory → ℕ → ℕ → Done Directory
+mandate D r d =
+    refuse (leb roleCount r) AboveLimit D
+    (refuse (leb databaseCount d) AboveLimit D
+    (refuse (hasMandate (D .tables) r d) AlreadyThere D
+    (refuse (not (mayRead (D .tables) r d)) NotThere D
+    (told (withTables D (mandated (D .tables) r d))))))
 
 -- ---- what is asked of a session, which has its number among those of both products
 
@@ -204,11 +215,15 @@ show S s f =
     (unless (leb (flowsIn S s) f) NoSuchFlow
     (Answer·Constraint s f))))
 
--- ---- 09 and 0e, a read: rows 2, 6, 10 to 14
+-- ---- 09 and 0e, a read: rows 2, 6, 10 to 14, of which a mandate passes 13 and 14 (K3)
 
 -- "refused as linkable if u holds a role of f's deny set and u's roles meet at least two of f's role sets", by f's constraint
 unfoldable pub links : Sessions → ℕ → ℕ → ℕ → Bool
 links S s f held = linkable roleCount flowCount held (getD (S .denies) (place s f) 0) (rolesetAt (S .rolesets) s f)
+
+-- "the user holds a role with a mandate at the database read"; `held` are the user's roles
+unfoldable pub byDuty : Tables → ℕ → ℕ → Bool
+byDuty T held d = meeting roleCount held (getD (T .mandates) d 0)
 
 unfoldable pub read : Directory → Sessions → ℕ → ℕ → ℕ → ℕ → Verdict
 read D S u s f d =
@@ -221,8 +236,9 @@ read D S u s f d =
     (bar (leb (flowsIn S s) f) NoSuchFlow
     (bar (not (has (getD (S .reaches) (place s f) 0) d)) OutOfReach
     (bar (not (meeting roleCount held (getD (D .tables .readers) d 0))) NoPermission
+    (cond (byDuty (D .tables) held d) Granted
     (bar (ltb (getD (S .versions) (place s f) 0) (getD (D .versions) u 0)) Changed
-    (bar (links S s f held) Linkable Granted)))))))))
+    (bar (links S s f held) Linkable Granted))))))))))
 
 -- the verdict on a read as an answer
 unfoldable pub answerOf : Verdict → Answer
@@ -237,6 +253,7 @@ change D counts (Withdraw u r) = withdraw D u r
 change D counts (Permit r d) = permit D r d
 change D counts (Revoke r d) = revoke D r d
 change D counts (Forward d e) = forward D counts d e
+change D counts (Mandate r d) = mandate D r d
 
 unfoldable pub ask : Directory → Sessions → ℕ → Ask → Done Sessions
 ask D S s Open = openSession (D .version) S s

@@ -9,14 +9,14 @@ use mathlib.Core.Logic.{_≢_}
 use lib.Dec.{ltb, eqb}
 use lib.ListN.{length, getD, take}
 use Rattle.sets.specs.Sets.{has, count}
-use Rattle.tables.specs.Tables.{roleCount, databaseCount, holds, mayRead, forwardsTo}
+use Rattle.tables.specs.Tables.{roleCount, databaseCount, holds, mayRead, forwardsTo, hasMandate}
 use Rattle.model.specs.declared.Engine.{Engine}
 use Rattle.model.specs.declared.calls.Refusal.{Refusal}
 use Rattle.model.specs.declared.calls.Refusal.the-variants.{Linkable}
 use Rattle.model.specs.declared.calls.Answer.{Answer}
 use Rattle.model.specs.declared.calls.Answer.the-variants.{Version, Roles, Flow, Granted as Answer·Granted, Constraint as Answer·Constraint, Refused as Answer·Refused}
 use Rattle.model.specs.declared.calls.Change.{Change}
-use Rattle.model.specs.declared.calls.Change.the-variants.{Assign, Withdraw, Permit, Revoke, Forward}
+use Rattle.model.specs.declared.calls.Change.the-variants.{Assign, Withdraw, Permit, Revoke, Forward, Mandate}
 use Rattle.model.specs.declared.calls.Product.{Product}
 use Rattle.model.specs.declared.calls.Ask.the-variants.{Open, Conflicting, Add, Show}
 use Rattle.model.specs.declared.calls.Call.{Call}
@@ -24,7 +24,7 @@ use Rattle.model.specs.declared.calls.Call.the-variants.{Table, Session,
 use Rattle.model.specs.declared.calls.Verdict.the-variants.{Granted, Refused}
 use Rattle.model.specs.State.{fresh, sessionAt, place}
 use Rattle.model.specs.Calls.{returned, links, answer, verdict, after, flowsIn}
-use Rattle.model.specs.Ledger.{Ledger, start, flowOf, reachOf, isConflicting, holdsDenied, linked}
+use Rattle.model.specs.Ledger.{Ledger, start, flowOf, reachOf, isConflicting, holdsDenied, linked, underMandate}
 use Rattle.model.specs.Ledger.{Flow as Flow·}
 use Rattle.model.specs.Refusals.{rows, firstMet, refusal, earlierRefusal, accepts, newFlow, ledgerAfter}
 
@@ -48,6 +48,7 @@ seen e = record {
   holds = λ u r. ltb r roleCount && holds (e .directory .tables) u r;
   mayRead = λ r d. ltb r roleCount && mayRead (e .directory .tables) r d;
   forwards = λ d x. ltb x databaseCount && forwardsTo (e .directory .tables) d x;
+  mandated = λ r d. ltb r roleCount && hasMandate (e .directory .tables) r d;
   system = e .directory .version;
   version = λ u. getD (e .directory .versions) u 0;
   opened = λ p s. has (e .sessions .opened) (sessionAt p s);
@@ -62,7 +63,7 @@ storedLinkable e p u s f = links (e .sessions) (sessionAt p s) f (getD (e .direc
 
 -- "and if accepted: ..": the answer by the ledger before the call and after it
 abbrev pub Told : Ledger → Ledger → Call → Answer → Type 0
--- "for 01–06 the system version"
+-- "for 01–06 the system version"; a mandate is "answered like kinds 01 to 06" (K3)
 Told l m (Table c) a = a ≡ Version (m .system)
 Told l m (Session p s Open) a = a ≡ Version (m .system)
 -- "for 07 the role set": the conflicting roles with a flow of this root counted in
@@ -112,6 +113,7 @@ takesFrom l u (Withdraw w r) = eqb w u
 takesFrom l u (Permit r d) = false
 takesFrom l u (Revoke r d) = l .holds u r
 takesFrom l u (Forward d e) = false
+takesFrom l u (Mandate r d) = false
 
 -- One claim about a whole list of calls.
 pub record Demand3 (cs : List Call) : Type 0 where
@@ -123,14 +125,17 @@ pub record Demand3 (cs : List Call) : Type 0 where
   pub accepting : (i : ℕ) → i < length cs → isRead (callAt cs i) ≡ false
       → eqb (returned (verdict (engineAt cs i) (callAt cs i))) 0 ≡ accepts (ledgerAt cs i) (callAt cs i)
   -- second half: "a read that meets no earlier row is refused as linkable exactly when its user, by the tables of that moment, holds a role
-  -- of the flow's deny set and may read at least two flows of the session, counted up to and including that one; otherwise it is granted"
+  -- of the flow's deny set and may read at least two flows of the session, counted up to and including that one; otherwise it is granted".
+  -- "The exact rule for 'linkable' covers reads outside a mandate" (K3)
   pub second : (p : Product) (i u s f d : ℕ) → i < length cs → callAt cs i ≡ Read p u s f d
-      → earlierRefusal (ledgerAt cs i) (Read p u s f d) ≡ 0
+      → underMandate (ledgerAt cs i) u d ≡ false → earlierRefusal (ledgerAt cs i) (Read p u s f d) ≡ 0
       → verdict (engineAt cs i) (Read p u s f d) ≡ cond (linked (ledgerAt cs i) p u s f) (Refused Linkable) Granted
   -- first half: "no user is granted reads of two flows of one session", "of one product's session" (K1). The two reads are call i and call j, of flows f and g.
   pub first : (p : Product) (i j u s f g d e : ℕ) → i < j → j < length cs
       → callAt cs i ≡ Read p u s f d → callAt cs j ≡ Read p u s g e → f ≢ g
       → verdict (engineAt cs i) (Read p u s f d) ≡ Granted → verdict (engineAt cs j) (Read p u s g e) ≡ Granted
+      -- "neither read was made under a mandate" (K3)
+      → underMandate (ledgerAt cs i) u d ≡ false → underMandate (ledgerAt cs j) u e ≡ false
       -- "at the read of the flow added later the user holds a role of its deny set"
       → (f < g → holdsDenied (ledgerAt cs j) u (flowOf (ledgerAt cs j) p s g) ≡ true)
       → (g < f → holdsDenied (ledgerAt cs i) u (flowOf (ledgerAt cs i) p s f) ≡ true)

@@ -1,4 +1,4 @@
--- Document 01's ledger of demand 3, with K1's two products. It is fed the calls alone and sees nothing of the engine: tables are tests on pairs, sets are tests on numbers.
+-- Document 01's ledger of demand 3, with K1's two products and K3's mandates. It is fed the calls alone and sees nothing of the engine: tables are tests on pairs, sets are tests on numbers.
 -- This file has what the ledger holds and what can be asked of it; Refusals has its rows, and how it takes a call.
 -- Assumes nothing.
 use Prim.Native.Nat.{ℕ, zero, suc, _-_}
@@ -18,11 +18,12 @@ pub record Flow : Type 0 where
   pub version : ℕ
   pub deny : ℕ → Bool
 
--- "It holds the tables, the system version, the users' versions, and the open sessions with their flows in order." The sessions are by product (K1).
+-- "It holds the tables, the system version, the users' versions, and the open sessions with their flows in order." The sessions are by product (K1), and mandates are a table (K3).
 pub record Ledger : Type 0 where
   pub holds : (u r : ℕ) → Bool
   pub mayRead : (r d : ℕ) → Bool
   pub forwards : (d e : ℕ) → Bool
+  pub mandated : (r d : ℕ) → Bool
   pub system : ℕ
   pub version : (u : ℕ) → ℕ
   pub opened : (p : Product) (s : ℕ) → Bool
@@ -30,7 +31,7 @@ pub record Ledger : Type 0 where
 
 -- "It starts as a fresh engine does."
 unfoldable pub start : Ledger
-start = record { holds = λ u r. false; mayRead = λ r d. false; forwards = λ d e. false; system = 0; version = λ u. 0; opened = λ p s. false; flows = λ p s. [] }
+start = record { holds = λ u r. false; mayRead = λ r d. false; forwards = λ d e. false; mandated = λ r d. false; system = 0; version = λ u. 0; opened = λ p s. false; flows = λ p s. [] }
 
 -- two products are the same
 unfoldable pub same : Product → Product → Bool
@@ -73,3 +74,7 @@ holdsDenied l u flow = some roleCount (λ r. l .holds u r && flow .deny r)
 -- demand 3, second half: the user "holds a role of the flow's deny set and may read at least two flows of the session, counted up to and including that one"
 unfoldable pub linked : Ledger → Product → ℕ → ℕ → ℕ → Bool
 linked l p u s f = holdsDenied l u (flowOf l p s f) && readsTwoOf l u (flowOf l p s) (suc f)
+
+-- K3: "A read is under a mandate if the user holds a role with a mandate at the database read."
+unfoldable pub underMandate : Ledger → ℕ → ℕ → Bool
+underMandate l u d = some roleCount (λ r. l .holds u r && l .mandated r d)

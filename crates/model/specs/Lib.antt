@@ -7,4 +7,5 @@ pub mod Demands
 pub mod Meaning
 pub mod Lasting
 pub mod Steps
+pub mod Mandates
 pub mod Products

@@ -8,12 +8,12 @@ use lib.ListN.{length, getD, replicate}
 use Rattle.sets.specs.Sets.{has}
 use Rattle.rows.specs.Reach.{reach}
 use Rattle.tables.specs.declared.Tables.{Tables}
-use Rattle.tables.specs.Tables.{userCount, roleCount, databaseCount, holds, mayRead, forwardsTo, staticallyReads, assigned, withdrawn, permitted, revoked, forwarded}
+use Rattle.tables.specs.Tables.{userCount, roleCount, databaseCount, holds, mayRead, forwardsTo, hasMandate, staticallyReads, assigned, withdrawn, permitted, revoked, forwarded, mandated}
 use Rattle.model.specs.declared.Engine.{Engine}
 use Rattle.model.specs.declared.calls.Refusal.{Refusal}
 use Rattle.model.specs.declared.calls.Refusal.the-variants.{Changed, Linkable}
 use Rattle.model.specs.declared.calls.Change.{Change}
-use Rattle.model.specs.declared.calls.Change.the-variants.{Assign, Withdraw, Permit, Revoke, Forward}
+use Rattle.model.specs.declared.calls.Change.the-variants.{Assign, Withdraw, Permit, Revoke, Forward, Mandate}
 use Rattle.model.specs.declared.calls.Product.{Product}
 use Rattle.model.specs.declared.calls.Ask.the-variants.{Open, Conflicting, Add, Show}
 use Rattle.model.specs.declared.calls.Call.{Call}
@@ -144,6 +144,8 @@ Changes old new (Permit r d) = (new .directory .tables ≡ permitted (old .direc
 Changes old new (Revoke r d) = (new .directory .tables ≡ revoked (old .directory .tables) r d) × RenewedHolders old new r
 -- "Forwarding, .. : none."
 Changes old new (Forward d x) = (new .directory .tables ≡ forwarded (old .directory .tables) d x) × Unrenewed old new
+-- "A mandate gives no new version" (K3)
+Changes old new (Mandate r d) = (new .directory .tables ≡ mandated (old .directory .tables) r d) × Unrenewed old new
 
 -- flow f of session s is kept as it was: root, reach and constraint
 pub record SameFlow (old new : Engine) (s f : ℕ) : Type 0 where
@@ -221,16 +223,20 @@ pub record Checked (e : Engine) (p : Product) (u s f d : ℕ) : Type 0 where
   pub reached : has (reachOf e (sessionAt p s) f) d ≡ true
   pub permitted : One roleCount (λ r. (holds (e .directory .tables) u r ≡ true) × (mayRead (e .directory .tables) r d ≡ true))
 
--- "A read is answered as granted, or as refused with its number."
+-- K3: "A read is under a mandate if the user holds a role with a mandate at the database read"
+abbrev pub UnderMandate : Engine → ℕ → ℕ → Type 0
+UnderMandate e u d = One roleCount (λ r. (holds (e .directory .tables) u r ≡ true) × (hasMandate (e .directory .tables) r d ≡ true))
+
+-- "A read is answered as granted, or as refused with its number." One under a mandate passes checks 13 and 14.
 pub record ReadMeans (e : Engine) (p : Product) (u s f d : ℕ) : Type 0 where
   -- "refused as changed if u's version is greater than f's"
-  pub changed : (verdict e (Read p u s f d) ≡ Refused Changed) ↔ (Checked e p u s f d × (versionOf e (sessionAt p s) f < userVersion e u))
+  pub changed : (verdict e (Read p u s f d) ≡ Refused Changed) ↔ (Checked e p u s f d × (UnderMandate e u d → ⊥) × (versionOf e (sessionAt p s) f < userVersion e u))
   -- "refused as linkable if u holds a role of f's deny set and u's roles meet at least two of f's role sets"
   pub linkable : (verdict e (Read p u s f d) ≡ Refused Linkable)
-      ↔ (Checked e p u s f d × (userVersion e u ≤ versionOf e (sessionAt p s) f) × Links roleCount flowCount (heldOf e u) (denyOf e (sessionAt p s) f) (rolesOf e (sessionAt p s) f))
+      ↔ (Checked e p u s f d × (UnderMandate e u d → ⊥) × (userVersion e u ≤ versionOf e (sessionAt p s) f) × Links roleCount flowCount (heldOf e u) (denyOf e (sessionAt p s) f) (rolesOf e (sessionAt p s) f))
   -- "else granted"
   pub granted : (verdict e (Read p u s f d) ≡ Granted)
-      ↔ (Checked e p u s f d × (userVersion e u ≤ versionOf e (sessionAt p s) f) × (Links roleCount flowCount (heldOf e u) (denyOf e (sessionAt p s) f) (rolesOf e (sessionAt p s) f) → ⊥))
+      ↔ (Checked e p u s f d × (UnderMandate e u d ⊎ ((userVersion e u ≤ versionOf e (sessionAt p s) f) × (Links roleCount flowCount (heldOf e u) (denyOf e (sessionAt p s) f) (rolesOf e (sessionAt p s) f) → ⊥))))
 
 -- ---- 0a
 
@@ -250,5 +256,6 @@ pub record FreshMeans (e : Engine) : Type 0 where
   pub users : length (e .directory .versions) ≡ userCount
   pub zeros : (u : ℕ) → userVersion e u ≡ 0
   pub system : e .directory .version ≡ 0
-  pub tables : (a b : ℕ) → (holds (e .directory .tables) a b ≡ false) × (mayRead (e .directory .tables) a b ≡ false) × (forwardsTo (e .directory .tables) a b ≡ false)
+  pub tables : (a b : ℕ)
+      → (holds (e .directory .tables) a b ≡ false) × (mayRead (e .directory .tables) a b ≡ false) × (forwardsTo (e .directory .tables) a b ≡ false) × (hasMandate (e .directory .tables) a b ≡ false)
   pub sessions : (s : ℕ) → (has (e .sessions .opened) s ≡ false) × (flowsOf e s ≡ 0)

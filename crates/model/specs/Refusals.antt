@@ -1,4 +1,4 @@
--- Document 01's refusal table ("Returned when refused") over the ledger, with K1's two products, and how the ledger takes a call.
+-- Document 01's refusal table ("Returned when refused") over the ledger, with K1's two products and K3's mandates, and how the ledger takes a call.
 -- Assumes nothing.
 use Prim.Native.Nat.{ℕ, _+_, _^_}
 use mathlib.Core.Bool.{Bool, true, false, cond, not, _&&_, _||_}
@@ -8,7 +8,7 @@ use lib.ListN.{length}
 use Rattle.sets.specs.Sets.{has, some}
 use Rattle.tables.specs.Tables.{userCount, roleCount, databaseCount}
 use Rattle.model.specs.declared.calls.Change.{Change}
-use Rattle.model.specs.declared.calls.Change.the-variants.{Assign, Withdraw, Permit, Revoke, Forward}
+use Rattle.model.specs.declared.calls.Change.the-variants.{Assign, Withdraw, Permit, Revoke, Forward, Mandate}
 use Rattle.model.specs.declared.calls.Product.{Product}
 use Rattle.model.specs.declared.calls.Product.the-variants.{Server, TermBank}
 use Rattle.model.specs.declared.calls.Ask.{Ask}
@@ -16,7 +16,7 @@ use Rattle.model.specs.declared.calls.Ask.the-variants.{Open, Conflictin
 use Rattle.model.specs.declared.calls.Call.{Call}
 use Rattle.model.specs.declared.calls.Call.the-variants.{Table, Session, Read, Unreadable}
 use Rattle.model.specs.Limits.{sessionCount, flowCount, lastVersion}
-use Rattle.model.specs.Ledger.{Ledger, Flow, same, flowOf, reachOf, isConflicting, linked}
+use Rattle.model.specs.Ledger.{Ledger, Flow, same, flowOf, reachOf, isConflicting, linked, underMandate}
 
 -- the users who are due a new version from a change ("Tables and versions"); no other call gives one
 unfoldable pub due : Ledger → Change → ℕ → Bool
@@ -25,6 +25,8 @@ due l (Withdraw u r) w = false
 due l (Permit r d) w = l .holds w r
 due l (Revoke r d) w = l .holds w r
 due l (Forward d e) w = false
+-- "A mandate gives no new version" (K3)
+due l (Mandate r d) w = false
 
 -- 9: "a new version is due and the system version is 65535"
 unfoldable pub spent : Ledger → Change → Bool
@@ -47,14 +49,17 @@ newFlow l p s root chosen = record { root = root; reach = reachOf l root; versio
 
 -- ---- the table by calls: the numbers that a call can return, in the order of its checks, and when each is met
 
--- 01 to 05
+-- 01 to 05, and 10
 unfoldable pub changeRows : Ledger → Change → List (ℕ × Bool)
 changeRows l (Assign u r) = (2, leb userCount u || leb roleCount r) ∷ (3, l .holds u r) ∷ (9, spent l (Assign u r)) ∷ []
 changeRows l (Withdraw u r) = (2, leb userCount u || leb roleCount r) ∷ (4, not (l .holds u r)) ∷ []
 changeRows l (Permit r d) = (2, leb roleCount r || leb databaseCount d) ∷ (3, l .mayRead r d) ∷ (9, spent l (Permit r d)) ∷ []
-changeRows l (Revoke r d) = (2, leb roleCount r || leb databaseCount d) ∷ (4, not (l .mayRead r d)) ∷ (9, spent l (Revoke r d)) ∷ []
+-- 15 "when a permission with a mandate on it is to be revoked, checked after 4 and before 9" (K3)
+changeRows l (Revoke r d) = (2, leb roleCount r || leb databaseCount d) ∷ (4, not (l .mayRead r d)) ∷ (15, l .mandated r d) ∷ (9, spent l (Revoke r d)) ∷ []
 -- 3 "after 5"
 changeRows l (Forward d e) = (2, leb databaseCount d || leb databaseCount e) ∷ (5, flowAdded l) ∷ (3, l .forwards d e) ∷ []
+-- "a pair without permission gives 4, a mandated one 3" (K3)
+changeRows l (Mandate r d) = (2, leb roleCount r || leb databaseCount d) ∷ (3, l .mandated r d) ∷ (4, not (l .mayRead r d)) ∷ []
 
 -- 06, 07, 08, 0a of the server, and 0b, 0c, 0d, 0f of the term bank; a chosen role above its limit would make a number above 64 bits
 unfoldable pub askRows : Ledger → Product → ℕ → Ask → List (ℕ × Bool)
@@ -68,17 +73,23 @@ askRows l p s (Add d m) =
     ∷ []
 askRows l p s (Show f) = (2, leb sessionCount s || leb flowCount f) ∷ (6, not (l .opened p s)) ∷ (10, leb (length (l .flows p s)) f) ∷ []
 
--- 09, and 0e. What row 14 goes by is handed in: the ledger has its own test, and an engine goes by its stored constraint.
-unfoldable pub readRows : Ledger → (Product → ℕ → ℕ → ℕ → Bool) → Product → ℕ → ℕ → ℕ → ℕ → List (ℕ × Bool)
-readRows l links p u s f d =
+-- 09, and 0e: the rows that every read is held to
+unfoldable pub checkRows : Ledger → Product → ℕ → ℕ → ℕ → ℕ → List (ℕ × Bool)
+checkRows l p u s f d =
     (2, (leb userCount u || leb databaseCount d) || (leb sessionCount s || leb flowCount f))
     ∷ (6, not (l .opened p s))
     ∷ (10, leb (length (l .flows p s)) f)
     ∷ (11, not (flowOf l p s f .reach d))
     ∷ (12, not (some roleCount (λ r. l .holds u r && l .mayRead r d)))
-    ∷ (13, ltb (flowOf l p s f .version) (l .version u))
-    ∷ (14, links p u s f)
     ∷ []
+
+-- then 13 and 14, which a read under a mandate passes (K3). What row 14 goes by is handed in: the ledger has its own test, and an engine goes by its stored constraint.
+unfoldable pub readRows : Ledger → (Product → ℕ → ℕ → ℕ → Bool) → Product → ℕ → ℕ → ℕ → ℕ → List (ℕ × Bool)
+readRows l links p u s f d =
+    checkRows l p u s f d
+    ++ ((13, not (underMandate l u d) && ltb (flowOf l p s f .version) (l .version u))
+    ∷ (14, not (underMandate l u d) && links p u s f)
+    ∷ [])
 
 unfoldable pub rows : Ledger → (Product → ℕ → ℕ → ℕ → Bool) → Call → List (ℕ × Bool)
 rows l links (Table c) = changeRows l c
@@ -111,16 +122,17 @@ unfoldable pub minus : (ℕ → ℕ → Bool) → ℕ → ℕ → ℕ → ℕ �
 minus pairs a b c d = pairs c d && not (eqb c a && eqb d b)
 
 -- the ledger with these tables
-abbrev pub withTables : Ledger → (ℕ → ℕ → Bool) → (ℕ → ℕ → Bool) → (ℕ → ℕ → Bool) → Ledger
-withTables l holds mayRead forwards = record { holds = holds; mayRead = mayRead; forwards = forwards; system = l .system; version = l .version; opened = l .opened; flows = l .flows }
+abbrev pub withTables : Ledger → (ℕ → ℕ → Bool) → (ℕ → ℕ → Bool) → (ℕ → ℕ → Bool) → (ℕ → ℕ → Bool) → Ledger
+withTables l holds mayRead forwards mandated = record { holds = holds; mayRead = mayRead; forwards = forwards; mandated = mandated; system = l .system; version = l .version; opened = l .opened; flows = l .flows }
 
 -- "the pair is entered, or struck out for withdrawing and revoking"
 unfoldable pub entered : Ledger → Change → Ledger
-entered l (Assign u r) = withTables l (plus (l .holds) u r) (l .mayRead) (l .forwards)
-entered l (Withdraw u r) = withTables l (minus (l .holds) u r) (l .mayRead) (l .forwards)
-entered l (Permit r d) = withTables l (l .holds) (plus (l .mayRead) r d) (l .forwards)
-entered l (Revoke r d) = withTables l (l .holds) (minus (l .mayRead) r d) (l .forwards)
-entered l (Forward d e) = withTables l (l .holds) (l .mayRead) (plus (l .forwards) d e)
+entered l (Assign u r) = withTables l (plus (l .holds) u r) (l .mayRead) (l .forwards) (l .mandated)
+entered l (Withdraw u r) = withTables l (minus (l .holds) u r) (l .mayRead) (l .forwards) (l .mandated)
+entered l (Permit r d) = withTables l (l .holds) (plus (l .mayRead) r d) (l .forwards) (l .mandated)
+entered l (Revoke r d) = withTables l (l .holds) (minus (l .mayRead) r d) (l .forwards) (l .mandated)
+entered l (Forward d e) = withTables l (l .holds) (l .mayRead) (plus (l .forwards) d e) (l .mandated)
+entered l (Mandate r d) = withTables l (l .holds) (l .mayRead) (l .forwards) (plus (l .mandated) r d)
 
 -- "the system version rises by one and the named users get it", if there are any
 unfoldable pub renewed : Ledger → (ℕ → Bool) → Ledger
@@ -128,6 +140,7 @@ renewed l named = record {
   holds = l .holds;
   mayRead = l .mayRead;
   forwards = l .forwards;
+  mandated = l .mandated;
   system = cond (some userCount named) (l .system + 1) (l .system);
   version = λ u. cond (named u) (l .system + 1) (l .version u);
   opened = l .opened;
@@ -140,6 +153,7 @@ withFlows l p s flows = record {
   holds = l .holds;
   mayRead = l .mayRead;
   forwards = l .forwards;
+  mandated = l .mandated;
   system = l .system;
   version = l .version;
   opened = λ q t. l .opened q t || (same q p && eqb t s);

@@ -44,8 +44,8 @@ roleSetCount = placeCount * flowCount
 
 -- ---- records of lent arrays
 
-abbrev pub tablesOf : List ℕ → List ℕ → List ℕ → Tables
-tablesOf roles readers forwards = record { roles = roles; readers = readers; forwards = forwards }
+abbrev pub tablesOf : List ℕ → List ℕ → List ℕ → List ℕ → Tables
+tablesOf roles readers forwards mandates = record { roles = roles; readers = readers; forwards = forwards; mandates = mandates }
 
 abbrev pub directoryOf : Tables → List ℕ → ℕ → Directory
 directoryOf T versions version = record { tables = T; versions = versions; version = version }

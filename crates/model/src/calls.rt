@@ -8,6 +8,7 @@ pub enum Change {
     Permit { role: usize, database: usize },
     Revoke { role: usize, database: usize },
     Forward { from: usize, to: usize },
+    Mandate { role: usize, database: usize },
 }
 
 // The products on one directory. Each has sessions of its own.
@@ -58,6 +59,7 @@ pub enum Refusal {
     NoPermission,
     Changed,
     Linkable,
+    Mandated,
 }
 
 // The answer to a read.

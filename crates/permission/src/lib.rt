@@ -37,7 +37,7 @@ fn renew<'a>(
 
 // Whether a new version is due to the holders of role r, and there is none left.
 fn spent(roles: &[u64; Engine::USERS], version: Version, r: usize) -> bool
-    ensures { λ b. ⌜ ((readers forwards versions : List ℕ) → b ≡ spent (directoryOf (tablesOf (now (roles .entry)) readers forwards) versions version) r) ⌝ }
+    ensures { λ b. ⌜ ((readers forwards mandates versions : List ℕ) → b ≡ spent (directoryOf (tablesOf (now (roles .entry)) readers forwards mandates) versions version) r) ⌝ }
 {
     if version != Engine::LAST_VERSION {
         return false;
@@ -52,8 +52,8 @@ fn to_holders<'a>(
     version: &mut Version,
     r: usize,
 )
-    requires { ⌜ ((readers forwards : List ℕ) → spent (directoryOf (tablesOf (now roles) readers forwards) (now versions) (now version)) r ≡ false) ⌝ }
-    ensures { λ _. ⌜ ((readers forwards : List ℕ) → directoryOf (tablesOf (now (roles .entry)) readers forwards) (now (versions .exit)) (now (version .exit)) ≡ toHolders (directoryOf (tablesOf (now (roles .entry)) readers forwards) (now (versions .entry)) (now (version .entry))) r) ⌝ }
+    requires { ⌜ ((readers forwards mandates : List ℕ) → spent (directoryOf (tablesOf (now roles) readers forwards mandates) (now versions) (now version)) r ≡ false) ⌝ }
+    ensures { λ _. ⌜ ((readers forwards mandates : List ℕ) → directoryOf (tablesOf (now (roles .entry)) readers forwards mandates) (now (versions .exit)) (now (version .exit)) ≡ toHolders (directoryOf (tablesOf (now (roles .entry)) readers forwards mandates) (now (versions .entry)) (now (version .entry))) r) ⌝ }
 {
     if *version < Engine::LAST_VERSION {
         let v = *version + 1;
@@ -72,7 +72,7 @@ pub fn permit<'a>(
     r: usize,
     d: usize,
 ) -> Answer
-    ensures { λ a. ⌜ ((forwards : List ℕ) → done a (directoryOf (tablesOf (now (roles .entry)) (now (readers .exit)) forwards) (now (versions .exit)) (now (version .exit))) ≡ permit (directoryOf (tablesOf (now (roles .entry)) (now (readers .entry)) forwards) (now (versions .entry)) (now (version .entry))) r d) ⌝ }
+    ensures { λ a. ⌜ ((forwards mandates : List ℕ) → done a (directoryOf (tablesOf (now (roles .entry)) (now (readers .exit)) forwards mandates) (now (versions .exit)) (now (version .exit))) ≡ permit (directoryOf (tablesOf (now (roles .entry)) (now (readers .entry)) forwards mandates) (now (versions .entry)) (now (version .entry))) r d) ⌝ }
 {
     if Engine::ROLES <= r {
         return Answer::Refused(Refusal::AboveLimit);
@@ -91,16 +91,18 @@ pub fn permit<'a>(
     Answer::Version(*version)
 }
 
-// 04: role r may not read database d any more, and its holders get a new version.
+// 04: role r may not read database d any more, and its holders get a new version. A permission with a
+// mandate on it stays.
 pub fn revoke<'a>(
     roles: &[u64; Engine::USERS],
     readers: &mut [u64; Engine::DATABASES],
+    mandates: &[u64; Engine::DATABASES],
     versions: &mut [Version; Engine::USERS],
     version: &mut Version,
     r: usize,
     d: usize,
 ) -> Answer
-    ensures { λ a. ⌜ ((forwards : List ℕ) → done a (directoryOf (tablesOf (now (roles .entry)) (now (readers .exit)) forwards) (now (versions .exit)) (now (version .exit))) ≡ revoke (directoryOf (tablesOf (now (roles .entry)) (now (readers .entry)) forwards) (now (versions .entry)) (now (version .entry))) r d) ⌝ }
+    ensures { λ a. ⌜ ((forwards : List ℕ) → done a (directoryOf (tablesOf (now (roles .entry)) (now (readers .exit)) forwards (now (mandates .entry))) (now (versions .exit)) (now (version .exit))) ≡ revoke (directoryOf (tablesOf (now (roles .entry)) (now (readers .entry)) forwards (now (mandates .entry))) (now (versions .entry)) (now (version .entry))) r d) ⌝ }
 {
     if Engine::ROLES <= r {
         return Answer::Refused(Refusal::AboveLimit);
@@ -110,6 +112,9 @@ pub fn revoke<'a>(
     }
     if !lent::there(readers, d, r) {
         return Answer::Refused(Refusal::NotThere);
+    }
+    if lent::there(mandates, d, r) {
+        return Answer::Refused(Refusal::Mandated);
     }
     if spent(roles, *version, r) {
         return Answer::Refused(Refusal::VersionsSpent);

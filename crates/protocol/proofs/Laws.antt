@@ -40,7 +40,7 @@ use Rattle.protocol.specs.Run.{Split, withByte, split, lastCall, callsOf
 -- no kind has so many fields
 rest-short : (kind : ℕ) → restDigits kind ≤ 20
 unfolding restDigits
-rest-short kind = pick (eqb kind 6 || eqb kind 11) 2 _ (omega arith) (pick (eqb kind 8 || eqb kind 13) 20 _ (omega arith) (pick (eqb kind 9 || eqb kind 14) 8 _ (omega arith) (pick (leb 1 kind && leb kind 15) 4 0 (omega arith) (omega arith))))
+rest-short kind = pick (eqb kind 6 || eqb kind 11) 2 _ (omega arith) (pick (eqb kind 8 || eqb kind 13) 20 _ (omega arith) (pick (eqb kind 9 || eqb kind 14) 8 _ (omega arith) (pick (leb 1 kind && leb kind 16) 4 0 (omega arith) (omega arith))))
   where
     pick : (t : Bool) (a b : ℕ) → a ≤ 20 → b ≤ 20 → cond t a b ≤ 20
     pick true a b l m = l

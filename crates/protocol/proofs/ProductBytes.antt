@@ -9,7 +9,7 @@ use lib.Dec.{leb}
 use lib.ListN.{length, getD, take}
 use Rattle.tables.specs.Tables.{roleCount, databaseCount}
 use Rattle.model.specs.declared.calls.Change.{Change}
-use Rattle.model.specs.declared.calls.Change.the-variants.{Assign, Withdraw, Permit, Revoke, Forward}
+use Rattle.model.specs.declared.calls.Change.the-variants.{Assign, Withdraw, Permit, Revoke, Forward, Mandate}
 use Rattle.model.specs.declared.calls.Product.{Product}
 use Rattle.model.specs.declared.calls.Product.the-variants.{Server, TermBank}
 use Rattle.model.specs.declared.calls.Ask.the-variants.{Open, Conflicting, Add, Show}
@@ -74,6 +74,7 @@ spelled-no-feed (Table (Withdraw u r)) = search no-feeds
 spelled-no-feed (Table (Permit r d)) = search no-feeds
 spelled-no-feed (Table (Revoke r d)) = search no-feeds
 spelled-no-feed (Table (Forward d e)) = search no-feeds
+spelled-no-feed (Table (Mandate r d)) = search no-feeds
 spelled-no-feed (Session Server s Open) = search no-feeds
 spelled-no-feed (Session Server s (Conflicting d)) = search no-feeds
 spelled-no-feed (Session Server s (Add d m)) = search no-feeds

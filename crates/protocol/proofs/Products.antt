@@ -6,7 +6,7 @@ use mathlib.Core.Bool.{Bool, true, false, cond, not-and-self}
 use mathlib.Core.List.{List, [], _∷_, _++_, map}
 use lib.Dec.{ltb}
 use lib.ListN.{length}
-use Rattle.model.specs.declared.calls.Change.the-variants.{Assign, Withdraw, Permit, Revoke, Forward}
+use Rattle.model.specs.declared.calls.Change.the-variants.{Assign, Withdraw, Permit, Revoke, Forward, Mandate}
 use Rattle.model.specs.declared.calls.Product.{Product}
 use Rattle.model.specs.declared.calls.Product.the-variants.{Server, TermBank}
 use Rattle.model.specs.declared.calls.Ask.the-variants.{Open, Conflicting, Add, Show}
@@ -41,6 +41,7 @@ same-told q b (Table (Withdraw u r)) h = refl
 same-told q b (Table (Permit r d)) h = refl
 same-told q b (Table (Revoke r d)) h = refl
 same-told q b (Table (Forward d e)) h = refl
+same-told q b (Table (Mandate r d)) h = refl
 same-told q b (Session p s Open) h = refl
 same-told q b (Session p s (Conflicting d)) h = ap M (fun-ext (λ c. rw h))
 same-told q b (Session p s (Add d m)) h = rw h
@@ -133,6 +134,7 @@ turned-told b (Table (Withdraw u r)) = refl
 turned-told b (Table (Permit r d)) = refl
 turned-told b (Table (Revoke r d)) = refl
 turned-told b (Table (Forward d e)) = refl
+turned-told b (Table (Mandate r d)) = refl
 turned-told b (Session Server s Open) = refl
 turned-told b (Session Server s (Conflicting d)) = refl
 turned-told b (Session Server s (Add d m)) = refl

@@ -14,7 +14,7 @@ use lib.Seq.{take-all, take-at, drop-at, take-suc, drop-drop}
 use borrow.Author.Tests.{eqb-true, lt-ltb, le-ltb, ltb-true, leb-true}
 use Rattle.sets.specs.Sets.{has, setOf, some}
 use Rattle.sets.proofs.Laws.{true-or-false, and-both, and-true, some-at, members}
-use Rattle.model.specs.declared.calls.Change.the-variants.{Assign, Withdraw, Permit, Revoke, Forward}
+use Rattle.model.specs.declared.calls.Change.the-variants.{Assign, Withdraw, Permit, Revoke, Forward, Mandate}
 use Rattle.model.specs.declared.calls.Product.the-variants.{Server, TermBank}
 use Rattle.model.specs.declared.calls.Ask.the-variants.{Open, Conflicting, Add, Show}
 use Rattle.model.specs.declared.calls.Call.{Call}
@@ -238,6 +238,7 @@ read-spelled (Table (Withdraw u r)) h = read-pair 2 u r (λ x y. Table (Withdraw
 read-spelled (Table (Permit r d)) h = read-pair 3 r d (λ x y. Table (Permit x y)) (omega arith) (h .0) (h .1) (λ rest e. rw e)
 read-spelled (Table (Revoke r d)) h = read-pair 4 r d (λ x y. Table (Revoke x y)) (omega arith) (h .0) (h .1) (λ rest e. rw e)
 read-spelled (Table (Forward d e)) h = read-pair 5 d e (λ x y. Table (Forward x y)) (omega arith) (h .0) (h .1) (λ rest q. rw q)
+read-spelled (Table (Mandate r d)) h = read-pair 16 r d (λ x y. Table (Mandate x y)) (omega arith) (h .0) (h .1) (λ rest e. rw e)
 read-spelled (Session Server s Open) h = read-one 6 s (λ x. Session Server x Open) (omega arith) h (λ rest e. rw e)
 read-spelled (Session Server s (Conflicting d)) h = read-pair 7 s d (λ x y. Session Server x (Conflicting y)) (omega arith) (h .0) (h .1) (λ rest e. rw e)
 read-spelled (Session Server s (Add d m)) h = read-add 8 s d m (λ x y z. Session Server x (Add y z)) (omega arith) (h .0) (h .1) (h .2) (λ rest e. rw e)
@@ -377,7 +378,8 @@ module _ (line : List ℕ) (h : allDigits line ≡ true) (long : eqb (length (dr
       (pick (Framed line) _ _ _ (λ t. inr (pair-framed 12 t refl))
       (pick (Framed line) _ _ _ (λ t. inr (add-framed 13 t refl))
       (pick (Framed line) _ _ _ (λ t. inr (quad-framed 14 t refl))
-      (pick (Framed line) _ _ _ (λ t. inr (pair-framed 15 t refl)) (inl refl)))))))))))))))
+      (pick (Framed line) _ _ _ (λ t. inr (pair-framed 15 t refl))
+      (pick (Framed line) _ _ _ (λ t. inr (pair-framed 16 t refl)) (inl refl))))))))))))))))
 
 framed-digits : (line : List ℕ) → allDigits line ≡ true → Framed line (frame (number (take 2 line)) (drop 2 line))
 unfolding frame

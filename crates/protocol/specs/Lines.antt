@@ -6,7 +6,7 @@ use mathlib.Core.List.{List, [], _∷_, _++_}
 use lib.Dec.{eqb, leb}
 use lib.ListN.{length, getD, take, drop}
 use Rattle.model.specs.declared.Constraint.{Constraint}
-use Rattle.model.specs.declared.calls.Change.the-variants.{Assign, Withdraw, Permit, Revoke, Forward}
+use Rattle.model.specs.declared.calls.Change.the-variants.{Assign, Withdraw, Permit, Revoke, Forward, Mandate}
 use Rattle.model.specs.declared.calls.Product.the-variants.{Server, TermBank}
 use Rattle.model.specs.declared.calls.Ask.the-variants.{Open, Conflicting, Add, Show}
 use Rattle.model.specs.declared.calls.Call.{Call}
@@ -34,7 +34,7 @@ restDigits kind =
     cond (eqb kind 0x06 || eqb kind 0x0b) (fields 1)
     (cond (eqb kind 0x08 || eqb kind 0x0d) (fields 2 + setDigits)
     (cond (eqb kind 0x09 || eqb kind 0x0e) (fields 4)
-    (cond (leb 0x01 kind && leb kind 0x0f) (fields 2) 0)))
+    (cond (leb 0x01 kind && leb kind 0x10) (fields 2) 0)))
 
 -- the call of this kind with these fields, and with this role set where it has one
 unfoldable pub calledBy : ℕ → (ℕ → ℕ) → ℕ → Call
@@ -69,8 +69,10 @@ calledBy kind field set =
     (cond (eqb kind 0x0e) (Read TermBank (field 0) (field 1) (field 2) (field 3))
     -- 0f ss ff
     (cond (eqb kind 0x0f) (Session TermBank (field 0) (Show (field 1)))
+    -- 10 rr dd
+    (cond (eqb kind 0x10) (Table (Mandate (field 0) (field 1)))
     -- "unknown kind"
-    Unreadable))))))))))))))
+    Unreadable)))))))))))))))
 
 -- the call of this kind whose fields are the rest of the line
 unfoldable pub called : ℕ → List ℕ → Call

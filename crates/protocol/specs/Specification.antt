@@ -1,4 +1,4 @@
--- What the program may write, for every input: document 01's "Frames" with K1's, over the ledger of demand 3 and its rows.
+-- What the program may write, for every input: document 01's "Frames" with K1's and K3's, over the ledger of demand 3 and its rows.
 -- This text names nothing of the engine, of the decoder or of the encoder. `Exact` says that the program's output is the one it allows.
 -- Assumes nothing.
 use Prim.Native.Nat.{ℕ, zero, suc, _+_, _/_, _%_, _^_, _<_}
@@ -10,7 +10,7 @@ use lib.Dec.{ltb}
 use lib.ListN.{length, getD}
 use Rattle.sets.specs.Sets.{has, some, count}
 use Rattle.tables.specs.Tables.{userCount, roleCount, databaseCount}
-use Rattle.model.specs.declared.calls.Change.the-variants.{Assign, Withdraw, Permit, Revoke, Forward}
+use Rattle.model.specs.declared.calls.Change.the-variants.{Assign, Withdraw, Permit, Revoke, Forward, Mandate}
 use Rattle.model.specs.declared.calls.Product.{Product}
 use Rattle.model.specs.declared.calls.Product.the-variants.{Server, TermBank}
 use Rattle.model.specs.declared.calls.Ask.the-variants.{Open, Conflicting, Add, Show}
@@ -67,6 +67,8 @@ spelled (Session TermBank s (Conflicting d)) = two 0x0c ++ (two s ++ two d)
 spelled (Session TermBank s (Add d m)) = two 0x0d ++ (two s ++ (two d ++ M (has m)))
 spelled (Read TermBank u s f d) = two 0x0e ++ (two u ++ (two s ++ (two f ++ two d)))
 spelled (Session TermBank s (Show f)) = two 0x0f ++ (two s ++ two f)
+-- "Kind 10 with rr dd puts a mandate on a permitted pair" (K3)
+spelled (Table (Mandate r d)) = two 0x10 ++ (two r ++ two d)
 spelled Unreadable = []
 
 -- a number that two digits hold, and a set that sixteen hold
@@ -83,6 +85,7 @@ HasFrame (Table (Withdraw u r)) = Field u × Field r
 HasFrame (Table (Permit r d)) = Field r × Field d
 HasFrame (Table (Revoke r d)) = Field r × Field d
 HasFrame (Table (Forward d e)) = Field d × Field e
+HasFrame (Table (Mandate r d)) = Field r × Field d
 HasFrame (Session p s Open) = Field s
 HasFrame (Session p s (Conflicting d)) = Field s × Field d
 HasFrame (Session p s (Add d m)) = Field s × Field d × Set m
@@ -149,7 +152,7 @@ setsOf (suc n) sets = setsOf n sets ++ M (sets n)
 
 -- "and if accepted: .."
 unfoldable pub told : Book → Call → List ℕ
--- "for 01–06 the system version, four digits"
+-- "for 01–06 the system version, four digits"; a mandate is "answered like kinds 01 to 06" (K3)
 told b (Table c) = version (taken (b .ledger) (Table c) .system)
 told b (Session p s Open) = version (taken (b .ledger) (Session p s Open) .system)
 -- "for 07 the role set": the conflicting roles "with a flow of root dd counted in but not added"

@@ -31,11 +31,12 @@ fn links(rolesets: &[u64; Engine::ROLE_SETS], deny: u64, held: u64, at: usize) -
 }
 
 // 09 and 0e: user u reads flow f of session s at database d. The answer is its number, 0 where the read
-// is granted. The last four tests are all made, with no branch between them: mispredicted branches cost
-// a read more than the tests do.
+// is granted. The tests of the last four rows, and whether the read is by duty, are all made, with no
+// branch between them: mispredicted branches cost a read more than the tests do.
 pub fn number<'a>(
     roles: &'a [u64; Engine::USERS],
     readers: &'a [u64; Engine::DATABASES],
+    mandates: &'a [u64; Engine::DATABASES],
     users: &'a [Version; Engine::USERS],
     opened: u64,
     counts: &'a [usize; Engine::ALL_SESSIONS],
@@ -48,7 +49,7 @@ pub fn number<'a>(
     f: usize,
     d: usize,
 ) -> u64
-    ensures { λ n. ⌜ ((forwards : List ℕ) (version : ℕ) (roots : List ℕ) → n ≡ returned (read (directoryOf (tablesOf (now (roles .entry)) (now (readers .entry)) forwards) (now (users .entry)) version) (sessionsOf opened (now (counts .entry)) roots (now (reaches .entry)) (now (versions .entry)) (now (denies .entry)) (now (rolesets .entry))) u s f d)) ⌝ }
+    ensures { λ n. ⌜ ((forwards : List ℕ) (version : ℕ) (roots : List ℕ) → n ≡ returned (read (directoryOf (tablesOf (now (roles .entry)) (now (readers .entry)) forwards (now (mandates .entry))) (now (users .entry)) version) (sessionsOf opened (now (counts .entry)) roots (now (reaches .entry)) (now (versions .entry)) (now (denies .entry)) (now (rolesets .entry))) u s f d)) ⌝ }
 {
     if Engine::USERS <= u {
         return 2;
@@ -72,15 +73,17 @@ pub fn number<'a>(
     let held = lent::row(roles, u);
     let out_of_reach = !sets::contains(reaches[at], d);
     let no_permission = !sets::meets(held, lent::row(readers, d));
+    let by_duty = sets::meets(held, lent::row(mandates, d));
     let changed = versions[at] < users[u];
     let linkable = links(rolesets, denies[at], held, at);
-    verdict::first_of(out_of_reach, no_permission, changed, linkable)
+    verdict::first_of(out_of_reach, no_permission, by_duty, changed, linkable)
 }
 
 // The same read, answered as document 01 has it: granted, or refused with its row.
 pub fn read<'a>(
     roles: &'a [u64; Engine::USERS],
     readers: &'a [u64; Engine::DATABASES],
+    mandates: &'a [u64; Engine::DATABASES],
     users: &'a [Version; Engine::USERS],
     opened: u64,
     counts: &'a [usize; Engine::ALL_SESSIONS],
@@ -93,11 +96,12 @@ pub fn read<'a>(
     f: usize,
     d: usize,
 ) -> Verdict
-    ensures { λ v. ⌜ ((forwards : List ℕ) (version : ℕ) (roots : List ℕ) → v ≡ read (directoryOf (tablesOf (now (roles .entry)) (now (readers .entry)) forwards) (now (users .entry)) version) (sessionsOf opened (now (counts .entry)) roots (now (reaches .entry)) (now (versions .entry)) (now (denies .entry)) (now (rolesets .entry))) u s f d) ⌝ }
+    ensures { λ v. ⌜ ((forwards : List ℕ) (version : ℕ) (roots : List ℕ) → v ≡ read (directoryOf (tablesOf (now (roles .entry)) (now (readers .entry)) forwards (now (mandates .entry))) (now (users .entry)) version) (sessionsOf opened (now (counts .entry)) roots (now (reaches .entry)) (now (versions .entry)) (now (denies .entry)) (now (rolesets .entry))) u s f d) ⌝ }
 {
     verdict::verdict_by(number(
         roles,
         readers,
+        mandates,
         users,
         opened,
         counts,

@@ -16,10 +16,10 @@ use Rattle.model.specs.State.{tablesOf, conflicts}
 use Rattle.search.specs.Search.{conflictsOf}
 
 -- the first n and one more
-pub conflicts-by-flow : (roles readers forwards may : List ℕ) (n : ℕ) (reachOf : ℕ → ℕ) → ((g : ℕ) → g < suc n → getD may g 0 ≡ readersOf roleCount databaseCount readers (reachOf g))
-    → conflictsOf roles may (n + 1) ≡ conflicts roleCount userCount databaseCount (tablesOf roles readers forwards) (suc n) reachOf
+pub conflicts-by-flow : (roles readers forwards mandates may : List ℕ) (n : ℕ) (reachOf : ℕ → ℕ) → ((g : ℕ) → g < suc n → getD may g 0 ≡ readersOf roleCount databaseCount readers (reachOf g))
+    → conflictsOf roles may (n + 1) ≡ conflicts roleCount userCount databaseCount (tablesOf roles readers forwards mandates) (suc n) reachOf
 unfolding conflictsOf conflicts
-conflicts-by-flow roles readers forwards may n reachOf f =
+conflicts-by-flow roles readers forwards mandates may n reachOf f =
     ap (conflictsOf roles may) (add-one n)
     ∙ setOf-cong roleCount _ _
     (λ c b. some-cong userCount _ _

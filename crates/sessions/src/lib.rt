@@ -50,7 +50,7 @@ pub fn conflicting<'a>(
     s: usize,
     root: usize,
 ) -> Answer
-    ensures { λ a. ⌜ ((roots versions denies rolesets : List ℕ) → a ≡ conflicting (tablesOf (now (roles .entry)) (now (readers .entry)) (now (forwards .entry))) (sessionsOf opened (now (counts .entry)) roots (now (reaches .entry)) versions denies rolesets) s root) ⌝ }
+    ensures { λ a. ⌜ ((mandates roots versions denies rolesets : List ℕ) → a ≡ conflicting (tablesOf (now (roles .entry)) (now (readers .entry)) (now (forwards .entry)) mandates) (sessionsOf opened (now (counts .entry)) roots (now (reaches .entry)) versions denies rolesets) s root) ⌝ }
 {
     if Engine::ALL_SESSIONS <= s {
         return Answer::Refused(Refusal::AboveLimit);

@@ -1,5 +1,5 @@
 // Any call, on the arrays of a whole engine. The calls stand in crates by what they are about:
-// `assignment`, `permission`, `forwarding`, `sessions`, `addition`, `reading`.
+// `assignment`, `permission`, `mandates`, `forwarding`, `sessions`, `addition`, `reading`.
 use model::Answer;
 use model::Ask;
 use model::Call;
@@ -30,12 +30,13 @@ fn change<'a>(
     roles: &mut [u64; Engine::USERS],
     readers: &mut [u64; Engine::DATABASES],
     forwards: &mut [u64; Engine::DATABASES],
+    mandates: &mut [u64; Engine::DATABASES],
     versions: &mut [Version; Engine::USERS],
     version: &mut Version,
     counts: &[usize; Engine::ALL_SESSIONS],
     c: Change,
 ) -> Answer
-    ensures { λ a. ⌜ done a (directoryOf (tablesOf (now (roles .exit)) (now (readers .exit)) (now (forwards .exit))) (now (versions .exit)) (now (version .exit))) ≡ change (directoryOf (tablesOf (now (roles .entry)) (now (readers .entry)) (now (forwards .entry))) (now (versions .entry)) (now (version .entry))) (now (counts .entry)) c ⌝ }
+    ensures { λ a. ⌜ done a (directoryOf (tablesOf (now (roles .exit)) (now (readers .exit)) (now (forwards .exit)) (now (mandates .exit))) (now (versions .exit)) (now (version .exit))) ≡ change (directoryOf (tablesOf (now (roles .entry)) (now (readers .entry)) (now (forwards .entry)) (now (mandates .entry))) (now (versions .entry)) (now (version .entry))) (now (counts .entry)) c ⌝ }
 {
     match c {
         Change::Assign { user, role } => assignment::assign(roles, versions, version, user, role),
@@ -51,12 +52,20 @@ fn change<'a>(
         Change::Revoke { role, database } => permission::revoke(
             roles,
             readers,
+            mandates,
             versions,
             version,
             role,
             database,
         ),
         Change::Forward { from, to } => forwarding::forward(forwards, *version, counts, from, to),
+        Change::Mandate { role, database } => mandates::mandate(
+            readers,
+            mandates,
+            *version,
+            role,
+            database,
+        ),
     }
 }
 
@@ -76,7 +85,7 @@ fn ask<'a>(
     s: usize,
     asked: Ask,
 ) -> Answer
-    ensures { λ a. ⌜ ((users : List ℕ) → done a (sessionsOf (now (opened .exit)) (now (counts .exit)) (now (roots .exit)) (now (reaches .exit)) (now (versions .exit)) (now (denies .exit)) (now (rolesets .exit))) ≡ ask (directoryOf (tablesOf (now (roles .entry)) (now (readers .entry)) (now (forwards .entry))) users version) (sessionsOf (now (opened .entry)) (now (counts .entry)) (now (roots .entry)) (now (reaches .entry)) (now (versions .entry)) (now (denies .entry)) (now (rolesets .entry))) s asked) ⌝ }
+    ensures { λ a. ⌜ ((mandates users : List ℕ) → done a (sessionsOf (now (opened .exit)) (now (counts .exit)) (now (roots .exit)) (now (reaches .exit)) (now (versions .exit)) (now (denies .exit)) (now (rolesets .exit))) ≡ ask (directoryOf (tablesOf (now (roles .entry)) (now (readers .entry)) (now (forwards .entry)) mandates) users version) (sessionsOf (now (opened .entry)) (now (counts .entry)) (now (roots .entry)) (now (reaches .entry)) (now (versions .entry)) (now (denies .entry)) (now (rolesets .entry))) s asked) ⌝ }
 {
     match asked {
         Ask::Open => sessions::open_session(opened, version, s),
@@ -110,6 +119,7 @@ pub fn step(
     roles: &mut [u64; Engine::USERS],
     readers: &mut [u64; Engine::DATABASES],
     forwards: &mut [u64; Engine::DATABASES],
+    mandates: &mut [u64; Engine::DATABASES],
     users: &mut [Version; Engine::USERS],
     version: &mut Version,
     opened: &mut u64,
@@ -121,10 +131,19 @@ pub fn step(
     rolesets: &mut [u64; Engine::ROLE_SETS],
     call: Call,
 ) -> Answer
-    ensures { λ a. ⌜ done a (engineOf (directoryOf (tablesOf (now (roles .exit)) (now (readers .exit)) (now (forwards .exit))) (now (users .exit)) (now (version .exit))) (sessionsOf (now (opened .exit)) (now (counts .exit)) (now (roots .exit)) (now (reaches .exit)) (now (versions .exit)) (now (denies .exit)) (now (rolesets .exit)))) ≡ step (engineOf (directoryOf (tablesOf (now (roles .entry)) (now (readers .entry)) (now (forwards .entry))) (now (users .entry)) (now (version .entry))) (sessionsOf (now (opened .entry)) (now (counts .entry)) (now (roots .entry)) (now (reaches .entry)) (now (versions .entry)) (now (denies .entry)) (now (rolesets .entry)))) call ⌝ }
+    ensures { λ a. ⌜ done a (engineOf (directoryOf (tablesOf (now (roles .exit)) (now (readers .exit)) (now (forwards .exit)) (now (mandates .exit))) (now (users .exit)) (now (version .exit))) (sessionsOf (now (opened .exit)) (now (counts .exit)) (now (roots .exit)) (now (reaches .exit)) (now (versions .exit)) (now (denies .exit)) (now (rolesets .exit)))) ≡ step (engineOf (directoryOf (tablesOf (now (roles .entry)) (now (readers .entry)) (now (forwards .entry)) (now (mandates .entry))) (now (users .entry)) (now (version .entry))) (sessionsOf (now (opened .entry)) (now (counts .entry)) (now (roots .entry)) (now (reaches .entry)) (now (versions .entry)) (now (denies .entry)) (now (rolesets .entry)))) call ⌝ }
 {
     match call {
-        Call::Table(c) => change(roles, readers, forwards, users, version, counts, c),
+        Call::Table(c) => change(
+            roles,
+            readers,
+            forwards,
+            mandates,
+            users,
+            version,
+            counts,
+            c,
+        ),
         Call::Session {
             product,
             session,
@@ -156,6 +175,7 @@ pub fn step(
             answer_of(reading::read(
                 roles,
                 readers,
+                mandates,
                 users,
                 *opened,
                 counts,

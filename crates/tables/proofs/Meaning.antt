@@ -13,7 +13,7 @@ use Rattle.rows.proofs.Paths.{has-image}
 use Rattle.rows.proofs.Meaning.{there-entered, there-struck}
 use Rattle.tables.specs.declared.Tables.{Tables}
 use Rattle.tables.specs.Tables.{userCount, roleCount, databaseCount, fresh}
-use Rattle.tables.specs.Tables.{withRoles, withReaders, withForwards, assigned, withdrawn, permitted, revoked, forwarded, unforwarded}
+use Rattle.tables.specs.Tables.{withRoles, withReaders, withForwards, withMandates, assigned, withdrawn, permitted, revoked, forwarded, unforwarded, mandated}
 use Rattle.tables.specs.Tables.{heldBy, overlaps, parentsOf, staticallyReads}
 use Rattle.tables.specs.Meaning.{ReadersMean, ReadsMean, HeldMeans, OverlapsMean, OverlapsItself, ParentsMean, UnheldHasNone, ChangesMean, FreshEmpty}
 
@@ -74,7 +74,7 @@ no-parent m roles o r h = let u = overlaps-iff m roles o r .0 h in held-iff m ro
 -- ---- the changes
 
 pub changes-mean : (t : Tables) → ChangesMean t
-unfolding assigned withdrawn permitted revoked forwarded unforwarded withRoles withReaders withForwards
+unfolding assigned withdrawn permitted revoked forwarded unforwarded mandated withRoles withReaders withForwards withMandates
 changes-mean t = record {
   assigning = there-entered roleCount (t .roles);
   withdrawing = there-struck roleCount (t .roles);
@@ -82,9 +82,11 @@ changes-mean t = record {
   revoking = λ r d q e. there-struck roleCount (t .readers) d r e q;
   forwarding = there-entered databaseCount (t .forwards);
   unforwarding = there-struck databaseCount (t .forwards);
-  rolesAlone = λ rows. (refl, refl);
-  readersAlone = λ rows. (refl, refl);
-  forwardsAlone = λ rows. (refl, refl);
+  mandating = λ r d q e. there-entered roleCount (t .mandates) d r e q;
+  rolesAlone = λ rows. (refl, refl, refl);
+  readersAlone = λ rows. (refl, refl, refl);
+  forwardsAlone = λ rows. (refl, refl, refl);
+  mandatesAlone = λ rows. (refl, refl, refl);
 }
 
 -- ---- fresh tables have no pair
@@ -101,4 +103,4 @@ nothing-there m a b = go (decLt a m)
 
 pub fresh-empty : FreshEmpty
 unfolding fresh
-fresh-empty a b = (nothing-there userCount a b, nothing-there databaseCount b a, nothing-there databaseCount a b)
+fresh-empty a b = (nothing-there userCount a b, nothing-there databaseCount b a, nothing-there databaseCount a b, nothing-there databaseCount b a)

@@ -11,8 +11,8 @@ use lib.ListN.{length}
 use Rattle.sets.specs.Sets.{has}
 use Rattle.rows.specs.Rows.{there}
 use Rattle.tables.specs.declared.Tables.{Tables}
-use Rattle.tables.specs.Tables.{roleCount, databaseCount, fresh, holds, mayRead, forwardsTo}
-use Rattle.tables.specs.Tables.{withRoles, withReaders, withForwards, assigned, withdrawn, permitted, revoked, forwarded, unforwarded}
+use Rattle.tables.specs.Tables.{roleCount, databaseCount, fresh, holds, mayRead, forwardsTo, hasMandate}
+use Rattle.tables.specs.Tables.{withRoles, withReaders, withForwards, withMandates, assigned, withdrawn, permitted, revoked, forwarded, unforwarded, mandated}
 use Rattle.tables.specs.Tables.{heldBy, overlaps, parentsOf, readersOf, staticallyReads}
 
 -- ---- who may read: n roles, m databases
@@ -48,7 +48,7 @@ ParentsMean = (n m : ℕ) (roles : List ℕ) (s r : ℕ) → (has (parentsOf n m
 abbrev pub UnheldHasNone : Type 0
 UnheldHasNone = (m : ℕ) (roles : List ℕ) (o r : ℕ) → overlaps m roles o r ≡ true → heldBy m roles o ≡ true
 
--- ---- each change is one of its own table: who holds what, who may read what, what forwards where
+-- ---- each change is one of its own table: who holds what, who may read what, what forwards where, who has a mandate where
 
 pub record ChangesMean (t : Tables) : Type 0 where
   pub assigning : (u r v q : ℕ) → u < length (t .roles) → q < roleCount → holds (assigned t u r) v q ≡ (holds t v q || (eqb v u && eqb q r))
@@ -57,11 +57,13 @@ pub record ChangesMean (t : Tables) : Type 0 where
   pub revoking : (r d q e : ℕ) → d < length (t .readers) → q < roleCount → mayRead (revoked t r d) q e ≡ (mayRead t q e && not (eqb e d && eqb q r))
   pub forwarding : (d e f g : ℕ) → d < length (t .forwards) → g < databaseCount → forwardsTo (forwarded t d e) f g ≡ (forwardsTo t f g || (eqb f d && eqb g e))
   pub unforwarding : (d e f g : ℕ) → d < length (t .forwards) → g < databaseCount → forwardsTo (unforwarded t d e) f g ≡ (forwardsTo t f g && not (eqb f d && eqb g e))
-  -- the other two tables stay
-  pub rolesAlone : (rows : List ℕ) → (withRoles t rows .readers ≡ t .readers) × (withRoles t rows .forwards ≡ t .forwards)
-  pub readersAlone : (rows : List ℕ) → (withReaders t rows .roles ≡ t .roles) × (withReaders t rows .forwards ≡ t .forwards)
-  pub forwardsAlone : (rows : List ℕ) → (withForwards t rows .roles ≡ t .roles) × (withForwards t rows .readers ≡ t .readers)
+  pub mandating : (r d q e : ℕ) → d < length (t .mandates) → q < roleCount → hasMandate (mandated t r d) q e ≡ (hasMandate t q e || (eqb e d && eqb q r))
+  -- the other three tables stay
+  pub rolesAlone : (rows : List ℕ) → (withRoles t rows .readers ≡ t .readers) × (withRoles t rows .forwards ≡ t .forwards) × (withRoles t rows .mandates ≡ t .mandates)
+  pub readersAlone : (rows : List ℕ) → (withReaders t rows .roles ≡ t .roles) × (withReaders t rows .forwards ≡ t .forwards) × (withReaders t rows .mandates ≡ t .mandates)
+  pub forwardsAlone : (rows : List ℕ) → (withForwards t rows .roles ≡ t .roles) × (withForwards t rows .readers ≡ t .readers) × (withForwards t rows .mandates ≡ t .mandates)
+  pub mandatesAlone : (rows : List ℕ) → (withMandates t rows .roles ≡ t .roles) × (withMandates t rows .readers ≡ t .readers) × (withMandates t rows .forwards ≡ t .forwards)
 
 -- "empty tables": fresh ones have no pair
 abbrev pub FreshEmpty : Type 0
-FreshEmpty = (a b : ℕ) → (holds fresh a b ≡ false) × (mayRead fresh a b ≡ false) × (forwardsTo fresh a b ≡ false)
+FreshEmpty = (a b : ℕ) → (holds fresh a b ≡ false) × (mayRead fresh a b ≡ false) × (forwardsTo fresh a b ≡ false) × (hasMandate fresh a b ≡ false)

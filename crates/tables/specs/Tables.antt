@@ -1,4 +1,4 @@
--- The three tables of document 01 ("Tables and versions"), and what can be asked of them.
+-- The three tables of document 01 ("Tables and versions"), K3's table of mandates, and what can be asked of them.
 -- Assumes nothing.
 use Prim.Native.Nat.{ℕ}
 use mathlib.Core.Bool.{Bool, _&&_}
@@ -20,11 +20,12 @@ databaseCount = 64
 
 -- ---- the tables: row u of `roles` is the set of the roles that user u holds,
 -- row d of `readers` the set of the roles that may read database d,
--- row d of `forwards` the set of the databases that d forwards to
+-- row d of `forwards` the set of the databases that d forwards to,
+-- row d of `mandates` the set of the roles that have a mandate at database d
 
 -- "empty tables"
 unfoldable pub fresh : Tables
-fresh = record { roles = replicate userCount 0; readers = replicate databaseCount 0; forwards = replicate databaseCount 0 }
+fresh = record { roles = replicate userCount 0; readers = replicate databaseCount 0; forwards = replicate databaseCount 0; mandates = replicate databaseCount 0 }
 
 -- user u holds role r
 abbrev pub holds : Tables → ℕ → ℕ → Bool
@@ -38,16 +39,23 @@ mayRead t r d = there (t .readers) d r
 abbrev pub forwardsTo : Tables → ℕ → ℕ → Bool
 forwardsTo t d e = there (t .forwards) d e
 
+-- K3: there is "a mandate on" the pair of role r and database d
+abbrev pub hasMandate : Tables → ℕ → ℕ → Bool
+hasMandate t r d = there (t .mandates) d r
+
 -- ---- the changes: a pair is entered in one table, or struck out of it
 
 unfoldable pub withRoles : Tables → List ℕ → Tables
-withRoles t rows = record { roles = rows; readers = t .readers; forwards = t .forwards }
+withRoles t rows = record { roles = rows; readers = t .readers; forwards = t .forwards; mandates = t .mandates }
 
 unfoldable pub withReaders : Tables → List ℕ → Tables
-withReaders t rows = record { roles = t .roles; readers = rows; forwards = t .forwards }
+withReaders t rows = record { roles = t .roles; readers = rows; forwards = t .forwards; mandates = t .mandates }
 
 unfoldable pub withForwards : Tables → List ℕ → Tables
-withForwards t rows = record { roles = t .roles; readers = t .readers; forwards = rows }
+withForwards t rows = record { roles = t .roles; readers = t .readers; forwards = rows; mandates = t .mandates }
+
+unfoldable pub withMandates : Tables → List ℕ → Tables
+withMandates t rows = record { roles = t .roles; readers = t .readers; forwards = t .forwards; mandates = rows }
 
 -- user u gets role r, or loses it
 unfoldable pub assigned : Tables → ℕ → ℕ → Tables
@@ -69,6 +77,10 @@ forwarded t d e = withForwards t (entered databaseCount (t .forwards) d e)
 
 unfoldable pub unforwarded : Tables → ℕ → ℕ → Tables
 unforwarded t d e = withForwards t (struck databaseCount (t .forwards) d e)
+
+-- role r has a mandate at database d from now on
+unfoldable pub mandated : Tables → ℕ → ℕ → Tables
+mandated t r d = withMandates t (entered roleCount (t .mandates) d r)
 
 -- ---- the questions, over the table that each is about: n and m are how many roles and users, or roles and databases, there are
 

@@ -1,5 +1,5 @@
-// The three tables: who holds which role, which role may read which database, and which database
-// forwards to which. What is asked and changed is in `lent`, on rows that are lent; `tables_by_value`
+// The four tables: who holds which role, which role may read which database, which database forwards
+// to which, and which role has a mandate at which database. What is asked and changed is in `lent`, on rows that are lent; `tables_by_value`
 // has it for tables by value.
 //
 // Every function answers for any numbers: above its limit nothing is there, and nothing changes.
@@ -12,6 +12,8 @@ pub struct Tables {
     pub readers: [u64; Tables::DATABASES],
     // Row d: the databases that d forwards to.
     pub forwards: [u64; Tables::DATABASES],
+    // Row d: the roles that have a mandate at database d, as with readers.
+    pub mandates: [u64; Tables::DATABASES],
 }
 
 impl Tables {

@@ -8,8 +8,8 @@ ghost use mathlib.Core.Path.{_≡_};
 ghost use Rattle.sets.specs.Sets.{sizeOf};
 ghost use Rattle.rows.specs.Reach.{reach};
 ghost use Rattle.tables.specs.Tables.{userCount, roleCount, databaseCount};
-ghost use Rattle.tables.specs.Tables.{fresh, holds, mayRead, forwardsTo};
-ghost use Rattle.tables.specs.Tables.{assigned, withdrawn, permitted, revoked, forwarded, unforwarded};
+ghost use Rattle.tables.specs.Tables.{fresh, holds, mayRead, forwardsTo, hasMandate};
+ghost use Rattle.tables.specs.Tables.{assigned, withdrawn, permitted, revoked, forwarded, unforwarded, mandated};
 ghost use Rattle.tables.specs.Tables.{heldBy, parentsOf, readersOf, staticallyReads};
 
 // Tables with nothing in them.
@@ -20,6 +20,7 @@ pub fn empty() -> Tables
         roles: [0; Tables::USERS],
         readers: [0; Tables::DATABASES],
         forwards: [0; Tables::DATABASES],
+        mandates: [0; Tables::DATABASES],
     }
 }
 
@@ -83,6 +84,16 @@ pub fn unforward(mut t: Tables, d: usize, e: usize) -> Tables
     t
 }
 
+// Role r has a mandate at database d from now on.
+pub fn mandate(mut t: Tables, r: usize, d: usize) -> Tables
+    ensures { λ x. ⌜ x ≡ mandated t r d ⌝ }
+{
+    let mut mandates = t.mandates;
+    lent::enter(&mut mandates, d, r);
+    t.mandates = mandates;
+    t
+}
+
 // Whether user u holds role r.
 pub fn holds(t: Tables, u: usize, r: usize) -> bool
     ensures { λ b. ⌜ b ≡ holds t u r ⌝ }
@@ -102,6 +113,13 @@ pub fn forwards_to(t: Tables, d: usize, e: usize) -> bool
     ensures { λ b. ⌜ b ≡ forwardsTo t d e ⌝ }
 {
     lent::there(&t.forwards, d, e)
+}
+
+// Whether role r has a mandate at database d.
+pub fn has_mandate(t: Tables, r: usize, d: usize) -> bool
+    ensures { λ b. ⌜ b ≡ hasMandate t r d ⌝ }
+{
+    lent::there(&t.mandates, d, r)
 }
 
 // Whether anybody holds role r.

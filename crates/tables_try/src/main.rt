@@ -5,8 +5,10 @@ use tables_by_value::assign;
 use tables_by_value::empty;
 use tables_by_value::forward;
 use tables_by_value::forwards_to;
+use tables_by_value::has_mandate;
 use tables_by_value::held;
 use tables_by_value::holds;
+use tables_by_value::mandate;
 use tables_by_value::may_read;
 use tables_by_value::parents;
 use tables_by_value::permit;
@@ -32,6 +34,7 @@ fn main() {
     nothing_there(t);
     nothing_entered(t);
     nothing_struck(t);
+    mandates(t);
 }
 
 // User 1 holds roles 0, 1 and 2, and user 2 role 0. Role 0 may read database 0, and role 1
@@ -182,6 +185,34 @@ fn nothing_struck(t: Tables) {
     answer(forwards_to(t, 1, 2));
     let t = unforward(t, 1, 66);
     answer(forwards_to(t, 1, 2));
+}
+
+// Role 1 gets a mandate at database 1, and role 2, which may not read it, at database 0: each asked for
+// before and after, then two pairs that are not there. Above the limits nothing is there and nothing is
+// entered, nor at the number less the limit. The other tables are as before: all parents, all readers,
+// the reach of 0 and of 1. Then role 1 may not read database 1 any more, and its mandate stays.
+fn mandates(t: Tables) {
+    answer(has_mandate(t, 1, 1));
+    let t = mandate(t, 1, 1);
+    answer(has_mandate(t, 1, 1));
+    answer(has_mandate(t, 2, 0));
+    let t = mandate(t, 2, 0);
+    answer(has_mandate(t, 2, 0));
+    answer(has_mandate(t, 0, 1));
+    answer(has_mandate(t, 1, 0));
+    answer(has_mandate(t, 65, 1));
+    answer(has_mandate(t, 1, 65));
+    let t = mandate(t, 64, 1);
+    answer(has_mandate(t, 0, 1));
+    let t = mandate(t, 0, 64);
+    answer(has_mandate(t, 0, 0));
+    line(parents(t, ALL));
+    line(readers(t, ALL));
+    line(reach(t, 0));
+    line(reach(t, 1));
+    let t = revoke(t, 1, 1);
+    answer(may_read(t, 1, 1));
+    answer(has_mandate(t, 1, 1));
 }
 
 fn line(n: u64) {

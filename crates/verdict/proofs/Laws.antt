@@ -1,7 +1,7 @@
 -- The number of a verdict tells the verdict.
 -- Assumes nothing.
 use mathlib.Core.Path.{_≡_, refl}
-use Rattle.model.specs.declared.calls.Refusal.the-variants.{Malformed, AboveLimit, AlreadyThere, NotThere, FlowAdded, NotOpen, SessionFull, NotConflicting, VersionsSpent, NoSuchFlow, OutOfReach, NoPermission, Changed, Linkable}
+use Rattle.model.specs.declared.calls.Refusal.the-variants.{Malformed, AboveLimit, AlreadyThere, NotThere, FlowAdded, NotOpen, SessionFull, NotConflicting, VersionsSpent, NoSuchFlow, OutOfReach, NoPermission, Changed, Linkable, Mandated}
 use Rattle.model.specs.declared.calls.Verdict.{Verdict}
 use Rattle.model.specs.declared.calls.Verdict.the-variants.{Granted, Refused}
 use Rattle.model.specs.Calls.{numberOf, returned}
@@ -24,3 +24,4 @@ back (Refused OutOfReach) = refl
 back (Refused NoPermission) = refl
 back (Refused Changed) = refl
 back (Refused Linkable) = refl
+back (Refused Mandated) = refl

@@ -17,13 +17,21 @@ fn pick(met: bool, number: u64, later: u64) -> u64
     later
 }
 
-// The number of the first of rows 11 to 14 that is met, and 0 where none is.
-pub fn first_of(out_of_reach: bool, no_permission: bool, changed: bool, linkable: bool) -> u64
-    ensures { λ n. ⌜ n ≡ returned (bar «out_of_reach» Refusal.OutOfReach (bar «no_permission» Refusal.NoPermission (bar changed Refusal.Changed (bar linkable Refusal.Linkable Verdict.Granted)))) ⌝ }
+// The number of the first of rows 11 to 14 that is met, and 0 where none is. A read by duty passes the
+// last two.
+pub fn first_of(
+    out_of_reach: bool,
+    no_permission: bool,
+    by_duty: bool,
+    changed: bool,
+    linkable: bool,
+) -> u64
+    ensures { λ n. ⌜ n ≡ returned (bar «out_of_reach» Refusal.OutOfReach (bar «no_permission» Refusal.NoPermission (cond «by_duty» Verdict.Granted (bar changed Refusal.Changed (bar linkable Refusal.Linkable Verdict.Granted))))) ⌝ }
 {
     let row14 = pick(linkable, 14, 0);
     let row13 = pick(changed, 13, row14);
-    let row12 = pick(no_permission, 12, row13);
+    let past12 = pick(by_duty, 0, row13);
+    let row12 = pick(no_permission, 12, past12);
     pick(out_of_reach, 11, row12)
 }
 
@@ -47,6 +55,7 @@ pub fn verdict_by(number: u64) -> Verdict
         12 => Verdict::Refused(Refusal::NoPermission),
         13 => Verdict::Refused(Refusal::Changed),
         14 => Verdict::Refused(Refusal::Linkable),
-        15..=u64::MAX => Verdict::Refused(Refusal::Malformed),
+        15 => Verdict::Refused(Refusal::Mandated),
+        16..=u64::MAX => Verdict::Refused(Refusal::Malformed),
     }
 }

@@ -8,7 +8,7 @@ use Rattle.rows.specs.Reach.{onward, level, reach}
 use Rattle.tables.specs.Tables.{withRoles, withReaders, withForwards, assigned, withdrawn, permitted, revoked, forwarded, heldBy, overlaps, parentsOf, staticallyReads}
 use Rattle.tables.specs.Tables.{fresh as emptyTables}
 use Rattle.model.specs.State.{firstOf, sessionAt, filled, place, setPlace, anyFlow, reachWith, conflicts, outside, denyBefore, roleSet, linkable, rolesetAt, given, newVersion, fresh}
-use Rattle.model.specs.Calls.{numberOf, returned, verdictOf, toHolders, spent, assign, withdraw, permit, revoke, forward, openSession, conflictsIn, conflicting, withFlow, add, show, links, read, answerOf, change, ask, step, answer, after, constraintAt}
+use Rattle.model.specs.Calls.{numberOf, returned, verdictOf, toHolders, spent, assign, withdraw, permit, revoke, forward, openSession, conflictsIn, conflicting, withFlow, add, show, links, byDuty, read, answerOf, change, ask, step, answer, after, constraintAt}
 use Rattle.protocol.specs.Digits.{digit, allDigits, numberFrom, number, glyph, hex}
 use Rattle.protocol.specs.Lines.{field, restDigits, calledBy, called, frame, callOf, roleSets, values, lineOf}
 use Rattle.protocol.specs.Run.{withByte, split, lastCall, callsOf, shownIn, reply, replies, run}
@@ -18,7 +18,7 @@ use Rattle.protocol.proofs.ProductBytes.{product-bytes}
 use Rattle.worked.specs.Worked.{worked, inputOf, outputOf, bankDigit, ofTheBank, bankInputOf, Settled}
 
 by-computing : run (inputOf worked) ≡ outputOf worked
-unfolding has setOf some count inserted removed joined shared lacking meeting sizeOf there entered struck image onward level reach withRoles withReaders withForwards assigned withdrawn permitted revoked forwarded heldBy overlaps parentsOf staticallyReads emptyTables filled place setPlace anyFlow reachWith conflicts outside denyBefore roleSet linkable rolesetAt given newVersion firstOf sessionAt fresh numberOf returned verdictOf toHolders spent assign withdraw permit revoke forward openSession conflictsIn conflicting withFlow add show links read answerOf change ask step answer after constraintAt digit allDigits numberFrom number glyph hex field restDigits calledBy called frame callOf roleSets values lineOf withByte split lastCall callsOf shownIn reply replies run worked inputOf outputOf
+unfolding has setOf some count inserted removed joined shared lacking meeting sizeOf there entered struck image onward level reach withRoles withReaders withForwards assigned withdrawn permitted revoked forwarded heldBy overlaps parentsOf staticallyReads emptyTables filled place setPlace anyFlow reachWith conflicts outside denyBefore roleSet linkable rolesetAt given newVersion firstOf sessionAt fresh numberOf returned verdictOf toHolders spent assign withdraw permit revoke forward openSession conflictsIn conflicting withFlow add show links byDuty read answerOf change ask step answer after constraintAt digit allDigits numberFrom number glyph hex field restDigits calledBy called frame callOf roleSets values lineOf withByte split lastCall callsOf shownIn reply replies run worked inputOf outputOf
 by-computing = refl
 
 -- the bank's frames say the same calls, but for the product; so they are answered alike

@@ -9,38 +9,38 @@ use Rattle.addition.proofs.add.Tie as tie
 
 returns : tie.Need-returns
 unfolding add
-returns c users =
+returns c mandates users =
     rw (le-leb _ _ (c .if1 .taken))
 
 returns-2 : tie.Need-returns-2
 unfolding add
-returns-2 c users =
+returns-2 c mandates users =
     let test1 = c .before in
     rw (lt-leb _ _ (test1 .if1 .left), le-leb _ _ (c .if2 .taken))
 
 returns-3 : tie.Need-returns-3
-returns-3 c users =
+returns-3 c mandates users =
     let at-contains = c .before in
     let test2 = at-contains .before in
     let test1 = test2 .before in
     let start = test1 .before in
-    not-open _ _ _ users _ _ _ _ _ _ _ _ _ _ _ (lt-leb _ _ (test1 .if1 .left)) (lt-leb _ _ (test2 .if2 .left)) (lt-leb _ _ (start .fits .chosen .fits)) (ap not (sym (at-contains .contains .ensures)) ∙ c .if3 .taken)
+    not-open _ _ _ mandates users _ _ _ _ _ _ _ _ _ _ _ (lt-leb _ _ (test1 .if1 .left)) (lt-leb _ _ (test2 .if2 .left)) (lt-leb _ _ (start .fits .chosen .fits)) (ap not (sym (at-contains .contains .ensures)) ∙ c .if3 .taken)
 
 returns-4 : tie.Need-returns-4
-returns-4 c users =
+returns-4 c mandates users =
     let test3 = c .before .before in
     let at-contains = test3 .before in
     let test2 = at-contains .before in
     let test1 = test2 .before in
     let start = test1 .before in
-    full _ _ _ users _ _ _ _ _ _ _ _ _ _ _ (lt-leb _ _ (test1 .if1 .left)) (lt-leb _ _ (test2 .if2 .left)) (lt-leb _ _ (start .fits .chosen .fits)) (ap not (sym (at-contains .contains .ensures)) ∙ test3 .if3 .left) (le-leb _ _ (c .if4 .taken))
+    full _ _ _ mandates users _ _ _ _ _ _ _ _ _ _ _ (lt-leb _ _ (test1 .if1 .left)) (lt-leb _ _ (test2 .if2 .left)) (lt-leb _ _ (start .fits .chosen .fits)) (ap not (sym (at-contains .contains .ensures)) ∙ test3 .if3 .left) (le-leb _ _ (c .if4 .taken))
 
 -- the place of the first step, from that of the second
 abbrev first-step : tie.After-roles-by-flow → tie.After-databases
 first-step c = c .before .before
 
 returns-5 : tie.Need-returns-5
-returns-5 c users =
+returns-5 c mandates users =
     let at-outside = c .before in
     let at-conflicts = at-outside .before in
     let at-roles-by-flow = at-conflicts .before .before in
@@ -51,7 +51,7 @@ returns-5 c users =
     let test2 = at-contains .before in
     let test1 = test2 .before in
     let start = test1 .before in
-    not-conflicting _ _ _ users _ _ _ _ _ _ _ _ _ _ _
+    not-conflicting _ _ _ mandates users _ _ _ _ _ _ _ _ _ _ _
     (lt-leb _ _ (test1 .if1 .left))
     (lt-leb _ _ (test2 .if2 .left))
     (lt-leb _ _ (start .fits .chosen .fits))
@@ -64,7 +64,7 @@ returns-5 c users =
     (sym (at-outside .outside .ensures) ∙ c .if5 .taken)
 
 returns-6 : tie.Need-returns-6
-returns-6 c users =
+returns-6 c mandates users =
     let at-put-sets = c .before in
     let at-overlapping-roles = at-put-sets .before .before .before in
     let at-union = at-overlapping-roles .before .before in
@@ -80,7 +80,7 @@ returns-6 c users =
     let test2 = at-contains .before in
     let test1 = test2 .before in
     let start = test1 .before in
-    accepted _ _ _ users _ _ _ _ _ _ _ _ _ _ _ _ _ _ _ _ _ _ _
+    accepted _ _ _ mandates users _ _ _ _ _ _ _ _ _ _ _ _ _ _ _ _ _ _ _
     (lt-leb _ _ (test1 .if1 .left))
     (lt-leb _ _ (test2 .if2 .left))
     (lt-leb _ _ (start .fits .chosen .fits))

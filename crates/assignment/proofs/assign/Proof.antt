@@ -10,18 +10,18 @@ use Rattle.assignment.proofs.assign.Tie as tie
 
 returns : tie.Need-returns
 unfolding assign
-returns c readers forwards =
+returns c readers forwards mandates =
     rw (le-leb _ _ (c .if1 .taken))
 
 returns-2 : tie.Need-returns-2
 unfolding assign
-returns-2 c readers forwards =
+returns-2 c readers forwards mandates =
     let test1 = c .before in
     rw (lt-leb _ _ (test1 .if1 .left), le-leb _ _ (c .if2 .taken))
 
 returns-3 : tie.Need-returns-3
 unfolding assign
-returns-3 c readers forwards =
+returns-3 c readers forwards mandates =
     let at-there = c .before in
     let test2 = at-there .before .before .before in
     let test1 = test2 .before in
@@ -29,7 +29,7 @@ returns-3 c readers forwards =
 
 returns-4 : tie.Need-returns-4
 unfolding assign
-returns-4 c readers forwards =
+returns-4 c readers forwards mandates =
     let test3 = c .before .before in
     let at-there = test3 .before in
     let test2 = at-there .before .before .before in
@@ -38,7 +38,7 @@ returns-4 c readers forwards =
 
 returns-5 : tie.Need-returns-5
 unfolding assign newVersion assigned withRoles
-returns-5 c readers forwards =
+returns-5 c readers forwards mandates =
     let test4 = c .before .before in
     let test3 = test4 .before .before in
     let at-there = test3 .before in

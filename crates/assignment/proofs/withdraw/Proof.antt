@@ -9,18 +9,18 @@ use Rattle.assignment.proofs.withdraw.Tie as tie
 
 returns : tie.Need-returns
 unfolding withdraw
-returns c readers forwards versions =
+returns c readers forwards mandates versions =
     rw (le-leb _ _ (c .if1 .taken))
 
 returns-2 : tie.Need-returns-2
 unfolding withdraw
-returns-2 c readers forwards versions =
+returns-2 c readers forwards mandates versions =
     let test1 = c .before in
     rw (lt-leb _ _ (test1 .if1 .left), le-leb _ _ (c .if2 .taken))
 
 returns-3 : tie.Need-returns-3
 unfolding withdraw
-returns-3 c readers forwards versions =
+returns-3 c readers forwards mandates versions =
     let at-there = c .before in
     let test2 = at-there .before .before .before in
     let test1 = test2 .before in
@@ -28,7 +28,7 @@ returns-3 c readers forwards versions =
 
 returns-4 : tie.Need-returns-4
 unfolding withdraw withdrawn withRoles
-returns-4 c readers forwards versions =
+returns-4 c readers forwards mandates versions =
     let test3 = c .before .before in
     let at-there = test3 .before in
     let test2 = at-there .before .before .before in

@@ -7,7 +7,7 @@ returns : tie.Need-returns
 unfolding answer step ask
 returns c =
     let at-number = c .before in
-    rw (← at-number .session-at .ensures) (c .conflicting .ensures _ _ _ _)
+    rw (← at-number .session-at .ensures) (c .conflicting .ensures _ _ _ _ _)
 
 pub conflicting-spec : {M : Type 1} → statement M
 conflicting-spec = tie.close (tie.spec (λ c κs. search needs) (λ c κs. search needs) returns)

@@ -8,18 +8,18 @@ use Rattle.forwarding.proofs.forward.Tie as tie
 
 returns : tie.Need-returns
 unfolding forward
-returns c roles readers versions =
+returns c roles readers mandates versions =
     rw (le-leb _ _ (c .if1 .taken))
 
 returns-2 : tie.Need-returns-2
 unfolding forward
-returns-2 c roles readers versions =
+returns-2 c roles readers mandates versions =
     let test1 = c .before in
     rw (lt-leb _ _ (test1 .if1 .left), le-leb _ _ (c .if2 .taken))
 
 returns-3 : tie.Need-returns-3
 unfolding forward
-returns-3 c roles readers versions =
+returns-3 c roles readers mandates versions =
     let at-any-flow = c .before in
     let test2 = at-any-flow .before in
     let test1 = test2 .before in
@@ -27,7 +27,7 @@ returns-3 c roles readers versions =
 
 returns-4 : tie.Need-returns-4
 unfolding forward
-returns-4 c roles readers versions =
+returns-4 c roles readers mandates versions =
     let at-there = c .before in
     let test3 = at-there .before .before .before in
     let at-any-flow = test3 .before in
@@ -37,7 +37,7 @@ returns-4 c roles readers versions =
 
 returns-5 : tie.Need-returns-5
 unfolding forward forwarded withForwards
-returns-5 c roles readers versions =
+returns-5 c roles readers mandates versions =
     let test4 = c .before .before in
     let at-there = test4 .before in
     let test3 = at-there .before .before .before in

@@ -8,19 +8,20 @@ use Rattle.kinds.proofs.Laws.{unknown, past-products, open-called, conf
 use Rattle.kinds.proofs.call_of.Statement.{statement}
 use Rattle.kinds.proofs.call_of.Tie as tie
 
-unknown-0 : tie.Need-returns-11
+unknown-0 : tie.Need-returns-12
 unknown-0 c = sym (unknown _ _ _ (inl (omega arith)))
 
-unknown-above : tie.Need-returns-12
+unknown-above : tie.Need-returns-13
 unknown-above c =
     let no = c .match .rest in
-    sym (unknown _ _ _ (inr (past-products _ (no .1) (no .0 .0 .0 .0 .0 .0) (no .0 .0 .0 .0 .0 .1) (no .0 .0 .0 .0 .1) (no .0 .0 .0 .1) (no .0 .0 .1) (no .0 .1))))
+    sym (unknown _ _ _ (inr (past-products _ (no .1) (no .0 .0 .0 .0 .0 .0 .0) (no .0 .0 .0 .0 .0 .0 .1) (no .0 .0 .0 .0 .0 .1) (no .0 .0 .0 .0 .1) (no .0 .0 .0 .1) (no .0 .0 .1) (no .0 .1))))
 
 pub call-of-spec : {M : Type 1} → statement M
 unfolding calledBy fieldIn
 call-of-spec =
     tie.close
     (tie.spec
+    (λ c κs. tt)
     (λ c κs. tt)
     (λ c κs. tt)
     (λ c κs. tt)
@@ -39,5 +40,6 @@ call-of-spec =
     (λ c. c .asked3 .ensures ∙ add-called _ _ _ _ _ _ (c .before .before .product-of .ensures) (c .before .match .keys8))
     (λ c. c .read .ensures ∙ read-called _ _ _ _ _ _ (c .before .before .product-of .ensures) (c .before .match .keys9))
     (λ c. c .asked4 .ensures ∙ show-called _ _ _ _ _ _ (c .before .before .product-of .ensures) (c .before .match .keys10))
+    (λ c. c .mandate .ensures ∙ rw (c .before .match .keys11))
     unknown-0
     unknown-above)

@@ -7,10 +7,10 @@ use Rattle.linkage.proofs.main.Statement.{statement}
 use Rattle.linkage.proofs.main.Tie as tie
 
 abbrev Inv-loop : tie.InvT-loop
-Inv-loop roles₀ readers₀ forwards₀ users₀ version₀ opened₀ counts₀ roots₀ reaches₀ versions₀ denies₀ rolesets₀ input₀ output₀ held₀ roles readers forwards users version opened counts roots reaches versions denies rolesets input output held = 65536 ≡ length output
+Inv-loop roles₀ readers₀ forwards₀ mandates₀ users₀ version₀ opened₀ counts₀ roots₀ reaches₀ versions₀ denies₀ rolesets₀ input₀ output₀ held₀ roles readers forwards mandates users version opened counts roots reaches versions denies rolesets input output held = 65536 ≡ length output
 
 abbrev μ-loop : tie.MeasureT-loop
-μ-loop roles₀ readers₀ forwards₀ users₀ version₀ opened₀ counts₀ roots₀ reaches₀ versions₀ denies₀ rolesets₀ input₀ output₀ held₀ roles readers forwards users version opened counts roots reaches versions denies rolesets input output held = held .turns
+μ-loop roles₀ readers₀ forwards₀ mandates₀ users₀ version₀ opened₀ counts₀ roots₀ reaches₀ versions₀ denies₀ rolesets₀ input₀ output₀ held₀ roles readers forwards mandates users version opened counts roots reaches versions denies rolesets input output held = held .turns
 
 loop-holds : tie.Need-loop-holds Inv-loop μ-loop
 loop-holds c = search needs

@@ -8,11 +8,11 @@ use Rattle.lists_try.proofs.run.Statement.{statement}
 use Rattle.lists_try.proofs.run.Tie as tie
 
 abbrev Inv-loop : tie.InvT-loop
-Inv-loop fd roles₀ readers₀ forwards₀ users₀ version₀ opened₀ counts₀ roots₀ reaches₀ versions₀ denies₀ rolesets₀ input₀ output₀ len₀ turns₀ roles readers forwards users version opened counts roots reaches versions denies rolesets input output len turns =
+Inv-loop fd roles₀ readers₀ forwards₀ mandates₀ users₀ version₀ opened₀ counts₀ roots₀ reaches₀ versions₀ denies₀ rolesets₀ input₀ output₀ len₀ turns₀ roles readers forwards mandates users version opened counts roots reaches versions denies rolesets input output len turns =
     (1000 ≡ length input) × (200 ≡ length output)
 
 abbrev μ-loop : tie.MeasureT-loop
-μ-loop fd roles₀ readers₀ forwards₀ users₀ version₀ opened₀ counts₀ roots₀ reaches₀ versions₀ denies₀ rolesets₀ input₀ output₀ len₀ turns₀ roles readers forwards users version opened counts roots reaches versions denies rolesets input output len turns =
+μ-loop fd roles₀ readers₀ forwards₀ mandates₀ users₀ version₀ opened₀ counts₀ roots₀ reaches₀ versions₀ denies₀ rolesets₀ input₀ output₀ len₀ turns₀ roles readers forwards mandates users version opened counts roots reaches versions denies rolesets input output len turns =
     turns
 
 loop-holds : tie.Need-loop-holds Inv-loop μ-loop
@@ -53,12 +53,12 @@ keep-requires c κs = search needs
 
 sub-turns : tie.Need-sub-turns Inv-loop μ-loop
 sub-turns c =
-    let h = c .before .before .before .before .before .before .before .before .before .before .before .before .before .before .before .before .before .before .before .before .before .before .before .before .before .before .loop-test .taken in
+    let h = c .before .before .before .before .before .before .before .before .before .before .before .before .before .before .before .before .before .before .before .before .before .before .before .before .before .before .before .loop-test .taken in
     omega arith
 
 loop-less : tie.Need-loop-less Inv-loop μ-loop
 loop-less c =
-    let h = c .before .before .before .before .before .before .before .before .before .before .before .before .before .before .before .before .before .before .before .before .before .before .before .before .before .before .loop-test .taken in
+    let h = c .before .before .before .before .before .before .before .before .before .before .before .before .before .before .before .before .before .before .before .before .before .before .before .before .before .before .before .loop-test .taken in
     omega arith
 
 loop-again : tie.Need-loop-again Inv-loop μ-loop

@@ -29,31 +29,53 @@ returns-3 c forwards =
 returns-4 : tie.Need-returns-4
 unfolding revoke
 returns-4 c forwards =
-    let at-spent = c .before in
-    let test3 = at-spent .before .before in
+    let at-there2 = c .before in
+    let test3 = at-there2 .before .before in
     let at-there = test3 .before in
     let test2 = at-there .before .before .before in
     let test1 = test2 .before in
-    let lent = test1 .before .args in
     rw (
       lt-leb _ _ (test1 .if1 .left),
       lt-leb _ _ (test2 .if2 .left),
       ap not (sym (at-there .there .ensures)) ∙ test3 .if3 .left,
-      sym (at-spent .spent .ensures (lent .readers .now) forwards (lent .versions .now)) ∙ c .if4 .taken,
+      sym (at-there2 .there2 .ensures) ∙ c .if4 .taken,
     )
 
-to-holders-requires : tie.Need-to-holders-requires
-to-holders-requires c κs readers forwards =
-    let test4 = c .before .before .before .before in
-    sym (test4 .before .spent .ensures readers forwards _) ∙ test4 .if4 .left
+-- the way back from the look for a version: to the place past the mandate's test, and to the look for a mandate
+abbrev passed : tie.After-spent → tie.Else4
+passed c = c .before .before
+
+abbrev looked : tie.Else4 → tie.After-there2
+looked c = c .before
 
 returns-5 : tie.Need-returns-5
-unfolding revoke revoked withReaders
+unfolding revoke
 returns-5 c forwards =
+    let at-spent = c .before in
+    let test4 = passed at-spent in
+    let at-there2 = looked test4 in
+    let test3 = at-there2 .before .before in
+    let at-there = test3 .before in
+    let test2 = at-there .before .before .before in
+    let test1 = test2 .before in
+    let lent = test1 .before .args in
+    let spent = sym (at-spent .spent .ensures (lent .readers .now) forwards (lent .mandates .now) (lent .versions .now)) ∙ c .if5 .taken in
+    rw (lt-leb _ _ (test1 .if1 .left), lt-leb _ _ (test2 .if2 .left), ap not (sym (at-there .there .ensures)) ∙ test3 .if3 .left, sym (at-there2 .there2 .ensures) ∙ test4 .if4 .left, spent)
+
+to-holders-requires : tie.Need-to-holders-requires
+to-holders-requires c κs readers forwards mandates =
+    let test5 = c .before .before .before .before in
+    sym (test5 .before .spent .ensures readers forwards mandates _) ∙ test5 .if5 .left
+
+returns-6 : tie.Need-returns-6
+unfolding revoke revoked withReaders
+returns-6 c forwards =
     let at-strike = c .before .before .before in
-    let test4 = at-strike .before .before in
-    let at-spent = test4 .before in
-    let test3 = at-spent .before .before in
+    let test5 = at-strike .before .before in
+    let at-spent = test5 .before in
+    let test4 = passed at-spent in
+    let at-there2 = looked test4 in
+    let test3 = at-there2 .before .before in
     let at-there = test3 .before in
     let test2 = at-there .before .before .before in
     let test1 = test2 .before in
@@ -62,10 +84,11 @@ returns-5 c forwards =
       lt-leb _ _ (test1 .if1 .left),
       lt-leb _ _ (test2 .if2 .left),
       ap not (sym (at-there .there .ensures)) ∙ test3 .if3 .left,
-      sym (at-spent .spent .ensures (lent .readers .now) forwards (lent .versions .now)) ∙ test4 .if4 .left,
+      sym (at-there2 .there2 .ensures) ∙ test4 .if4 .left,
+      sym (at-spent .spent .ensures (lent .readers .now) forwards (lent .mandates .now) (lent .versions .now)) ∙ test5 .if5 .left,
       at-strike .strike .ensures,
     )
-    (ap told (c .to-holders .ensures _ forwards))
+    (ap told (c .to-holders .ensures _ forwards (lent .mandates .now)))
 
 pub revoke-spec : {M : Type 1} → statement M
 revoke-spec =
@@ -78,5 +101,7 @@ revoke-spec =
     (λ c κs. search needs)
     returns-4
     (λ c κs. search needs)
+    returns-5
+    (λ c κs. search needs)
     to-holders-requires
-    returns-5)
+    returns-6)

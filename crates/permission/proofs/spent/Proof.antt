@@ -12,9 +12,9 @@ use Rattle.model.specs.Calls.{spent}
 use Rattle.permission.proofs.spent.Statement.{statement}
 use Rattle.permission.proofs.spent.Tie as tie
 
-module _ (roles readers forwards versions : List ℕ) (version r : ℕ) where
+module _ (roles readers forwards mandates versions : List ℕ) (version r : ℕ) where
   -- there is a version left
-  some-left : (version ≡ lastVersion → ⊥) → false ≡ spent (directoryOf (tablesOf roles readers forwards) versions version) r
+  some-left : (version ≡ lastVersion → ⊥) → false ≡ spent (directoryOf (tablesOf roles readers forwards mandates) versions version) r
   unfolding spent
   some-left h = rw (ne-eqb version lastVersion h) (go (heldBy userCount roles r))
     where
@@ -22,17 +22,17 @@ module _ (roles readers forwards versions : List ℕ) (version r : ℕ) where
       go true = refl
       go false = refl
 
-  none-left : (held : Bool) → version ≡ lastVersion → held ≡ heldBy userCount roles r → held ≡ spent (directoryOf (tablesOf roles readers forwards) versions version) r
+  none-left : (held : Bool) → version ≡ lastVersion → held ≡ heldBy userCount roles r → held ≡ spent (directoryOf (tablesOf roles readers forwards mandates) versions version) r
   unfolding spent
   none-left held h e = rw (eq-eqb version lastVersion h) (e ∙ and-all (heldBy userCount roles r))
 
 returns : tie.Need-returns
-returns c readers forwards versions = some-left _ readers forwards versions _ _ (c .if1 .taken)
+returns c readers forwards mandates versions = some-left _ readers forwards mandates versions _ _ (c .if1 .taken)
 
 returns-2 : tie.Need-returns-2
-returns-2 c readers forwards versions =
+returns-2 c readers forwards mandates versions =
     let test1 = c .before in
-    none-left _ readers forwards versions _ _ _ (test1 .if1 .left) (c .held .ensures)
+    none-left _ readers forwards mandates versions _ _ _ (test1 .if1 .left) (c .held .ensures)
 
 pub spent-spec : {M : Type 1} → statement M
 spent-spec = tie.close (tie.spec returns (λ c κs. search needs) returns-2)

@@ -17,42 +17,42 @@ use Rattle.model.proofs.Laws.{given-none}
 use Rattle.permission.proofs.to_holders.Statement.{statement}
 use Rattle.permission.proofs.to_holders.Tie as tie
 
-module _ (roles readers forwards versions : List ℕ) (version r : ℕ) where
+module _ (roles readers forwards mandates versions : List ℕ) (version r : ℕ) where
   given-to : (versions′ : List ℕ) (held : Bool) → held ≡ heldBy userCount roles r → versions′ ≡ given (λ u. there roles u r) (version + 1) userCount versions → held ≡ true
-      → directoryOf (tablesOf roles readers forwards) versions′ (version + 1) ≡ toHolders (directoryOf (tablesOf roles readers forwards) versions version) r
+      → directoryOf (tablesOf roles readers forwards mandates) versions′ (version + 1) ≡ toHolders (directoryOf (tablesOf roles readers forwards mandates) versions version) r
   unfolding toHolders newVersion
   given-to versions′ held e g h = rw (sym e ∙ h, g)
 
   given-nobody : (versions′ : List ℕ) (held : Bool) → held ≡ heldBy userCount roles r → versions′ ≡ given (λ u. there roles u r) (version + 1) userCount versions → held ≡ false
-      → directoryOf (tablesOf roles readers forwards) versions′ version ≡ toHolders (directoryOf (tablesOf roles readers forwards) versions version) r
+      → directoryOf (tablesOf roles readers forwards mandates) versions′ version ≡ toHolders (directoryOf (tablesOf roles readers forwards mandates) versions version) r
   unfolding toHolders heldBy
   given-nobody versions′ held e g h =
       let none = sym e ∙ h in
       let same = given-none (λ u. there roles u r) (version + 1) userCount versions (λ u l. ⊎-elim (λ t. absurd (true≢false (sym (some-at userCount (λ w. there roles w r) u l t) ∙ none))) (λ t. t) (true-or-false (there roles u r))) in
       rw (none, g, same)
 
-  last : version ≡ lastVersion → spent (directoryOf (tablesOf roles readers forwards) versions version) r ≡ false
-      → directoryOf (tablesOf roles readers forwards) versions version ≡ toHolders (directoryOf (tablesOf roles readers forwards) versions version) r
+  last : version ≡ lastVersion → spent (directoryOf (tablesOf roles readers forwards mandates) versions version) r ≡ false
+      → directoryOf (tablesOf roles readers forwards mandates) versions version ≡ toHolders (directoryOf (tablesOf roles readers forwards mandates) versions version) r
   unfolding spent toHolders
   last e h =
       let nobody : heldBy userCount roles r ≡ false = and-all (heldBy userCount roles r) ∙ (rw (eq-eqb version lastVersion e) at h) in
       rw nobody
 
 returns : tie.Need-returns
-returns c readers forwards =
+returns c readers forwards mandates =
     let at-renew = c .before in
-    given-to _ readers forwards _ _ _ _ _ (at-renew .renew .ensures .0) (at-renew .renew .ensures .1) (c .if2 .taken)
+    given-to _ readers forwards mandates _ _ _ _ _ (at-renew .renew .ensures .0) (at-renew .renew .ensures .1) (c .if2 .taken)
 
 returns-2 : tie.Need-returns-2
-returns-2 c readers forwards =
+returns-2 c readers forwards mandates =
     let at-renew = c .before in
-    given-nobody _ readers forwards _ _ _ _ _ (at-renew .renew .ensures .0) (at-renew .renew .ensures .1) (c .if2 .left)
+    given-nobody _ readers forwards mandates _ _ _ _ _ (at-renew .renew .ensures .0) (at-renew .renew .ensures .1) (c .if2 .left)
 
 returns-3 : tie.Need-returns-3
-returns-3 c readers forwards =
+returns-3 c readers forwards mandates =
     let start = c .before .before in
     let e : start .args .version .now ≡ lastVersion = omega arith in
-    last _ readers forwards _ _ _ e (start .pre readers forwards)
+    last _ readers forwards mandates _ _ _ e (start .pre readers forwards mandates)
 
 pub to-holders-spec : {M : Type 1} → statement M
 to-holders-spec = tie.close (tie.spec (λ c. search needs) (λ c κs. search needs) returns returns-2 returns-3)

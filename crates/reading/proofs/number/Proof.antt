@@ -3,7 +3,7 @@ use mathlib.Core.Bool.{not}
 use borrow.Author.Needs.{needs}
 use borrow.Author.Tests.{le-leb, lt-leb}
 use Rattle.model.specs.State.{place, setPlace, rolesetAt}
-use Rattle.model.specs.Calls.{returned, numberOf, links, read}
+use Rattle.model.specs.Calls.{returned, numberOf, links, byDuty, read}
 use Rattle.reading.proofs.number.Statement.{statement}
 use Rattle.reading.proofs.number.Tie as tie
 
@@ -76,12 +76,14 @@ returns-6 c forwards version roots =
       le-leb _ _ (c .if6 .taken),
     )
 
--- the last four rows, whose tests are all made
+-- the last four rows, whose tests are all made, and the mandate that passes two of them
 returns-7 : tie.Need-returns-7
-unfolding read links rolesetAt setPlace place
+unfolding read byDuty links rolesetAt setPlace place
 returns-7 c forwards version roots =
     let at-links = c .before in
-    let at-meets = at-links .before .before .before .before in
+    let at-meets2 = at-links .before .before .before .before in
+    let at-row3 = at-meets2 .before in
+    let at-meets = at-row3 .before .before in
     let at-row2 = at-meets .before in
     let at-contains2 = at-row2 .before .before in
     let at-row = at-contains2 .before .before in
@@ -102,7 +104,9 @@ returns-7 c forwards version roots =
       c .first-of .ensures,
       at-contains2 .contains2 .ensures,
       at-meets .meets .ensures,
+      at-meets2 .meets2 .ensures,
       at-links .links .ensures,
+      at-row3 .row3 .ensures,
       at-row2 .row2 .ensures,
       at-row .row .ensures,
     )
@@ -125,6 +129,8 @@ number-spec =
     (λ c κs. search needs)
     (λ c. search needs)
     (λ c. search needs)
+    (λ c κs. search needs)
+    (λ c κs. search needs)
     (λ c κs. search needs)
     (λ c κs. search needs)
     (λ c κs. search needs)

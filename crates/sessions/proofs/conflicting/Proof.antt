@@ -11,18 +11,18 @@ use Rattle.sessions.proofs.conflicting.Tie as tie
 
 returns : tie.Need-returns
 unfolding conflicting
-returns c roots versions denies rolesets =
+returns c mandates roots versions denies rolesets =
     rw (le-leb _ _ (c .if1 .taken))
 
 returns-2 : tie.Need-returns-2
 unfolding conflicting
-returns-2 c roots versions denies rolesets =
+returns-2 c mandates roots versions denies rolesets =
     let test1 = c .before in
     rw (lt-leb _ _ (test1 .if1 .left), le-leb _ _ (c .if2 .taken))
 
 returns-3 : tie.Need-returns-3
 unfolding conflicting
-returns-3 c roots versions denies rolesets =
+returns-3 c mandates roots versions denies rolesets =
     let at-contains = c .before in
     let test2 = at-contains .before in
     let test1 = test2 .before in
@@ -30,7 +30,7 @@ returns-3 c roots versions denies rolesets =
 
 returns-4 : tie.Need-returns-4
 unfolding conflicting
-returns-4 c roots versions denies rolesets =
+returns-4 c mandates roots versions denies rolesets =
     let test3 = c .before .before in
     let at-contains = test3 .before in
     let test2 = at-contains .before in
@@ -39,7 +39,7 @@ returns-4 c roots versions denies rolesets =
 
 returns-5 : tie.Need-returns-5
 unfolding conflicting conflictsIn
-returns-5 c roots versions denies rolesets =
+returns-5 c mandates roots versions denies rolesets =
     let at-roles-by-flow = c .before .before in
     let at-databases = at-roles-by-flow .before in
     let test4 = at-databases .before in
@@ -53,7 +53,7 @@ returns-5 c roots versions denies rolesets =
       ap not (sym (at-contains .contains .ensures)) ∙ test3 .if3 .left,
       lt-leb _ _ (test4 .if4 .left),
       c .conflicts .ensures
-          ∙ conflicts-by-flow _ _ (test1 .before .args .forwards .now) _ _ _ (λ g l. roles-at _ _ _ _ _ _ _ _ (lt-leb _ _ (test1 .if1 .left)) (at-databases .databases .ensures) (at-roles-by-flow .roles-by-flow .ensures) g (omega (arith, test4 .if4 .left))),
+          ∙ conflicts-by-flow _ _ (test1 .before .args .forwards .now) mandates _ _ _ (λ g l. roles-at _ _ _ _ _ _ _ _ (lt-leb _ _ (test1 .if1 .left)) (at-databases .databases .ensures) (at-roles-by-flow .roles-by-flow .ensures) g (omega (arith, test4 .if4 .left))),
     )
 
 pub conflicting-spec : {M : Type 1} → statement M

@@ -9,7 +9,7 @@ use Rattle.step.proofs.step.Tie as tie
 returns : tie.Need-returns
 unfolding step
 returns c =
-    let at-call = c .before .before .before .before .before .before .before .before in
+    let at-call = c .before .before .before .before .before .before .before .before .before in
     rw (at-call .call .given .1) (of-directory _ (c .change .ensures))
 
 returns-2 : tie.Need-returns-2
@@ -17,14 +17,14 @@ unfolding step
 returns-2 c =
     let at-number = c .before in
     let at-call2 = at-number .before .before .before .before .before .before .before .before .before .before .before .before .before in
-    rw (at-call2 .call2 .given .1, ← at-number .session-at .ensures) (of-sessions _ (c .ask .ensures _))
+    rw (at-call2 .call2 .given .1, ← at-number .session-at .ensures) (of-sessions _ (c .ask .ensures _ _))
 
 returns-3 : tie.Need-returns-3
 unfolding step
 returns-3 c =
     let at-read = c .before in
     let at-number = at-read .before in
-    let at-call3 = at-number .before .before .before .before .before .before .before .before .before .before .before in
+    let at-call3 = at-number .before .before .before .before .before .before .before .before .before .before .before .before in
     rw (at-call3 .call3 .given .1, ← at-number .session-at2 .ensures) (same-answer _ (c .answer-of .ensures ∙ ap answerOf (at-read .read .ensures _ _ _)))
 
 returns-4 : tie.Need-returns-4

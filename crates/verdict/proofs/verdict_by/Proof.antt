@@ -74,10 +74,14 @@ returns-15 c = rw (c .match .keys15)
 
 returns-16 : tie.Need-returns-16
 unfolding verdictBy verdicts
-returns-16 c =
+returns-16 c = rw (c .match .keys16)
+
+returns-17 : tie.Need-returns-17
+unfolding verdictBy verdicts
+returns-17 c =
     let not = c .match .rest in
-    let l : 15 ≤ c .before .args .number = past 14 _ (past 13 _ (past 12 _ (past 11 _ (past 10 _ (past 9 _ (past 8 _ (past 7 _ (past 6 _ (past 5 _ (past 4 _ (past 3 _ (past 2 _ (past 1 _ (past 0 _ (omega arith) (not .0 .0 .0 .0 .0 .0 .0 .0 .0 .0 .0 .0 .0 .0 .1)) (not .0 .0 .0 .0 .0 .0 .0 .0 .0 .0 .0 .0 .0 .1)) (not .0 .0 .0 .0 .0 .0 .0 .0 .0 .0 .0 .0 .1)) (not .0 .0 .0 .0 .0 .0 .0 .0 .0 .0 .0 .1)) (not .0 .0 .0 .0 .0 .0 .0 .0 .0 .0 .1)) (not .0 .0 .0 .0 .0 .0 .0 .0 .0 .1)) (not .0 .0 .0 .0 .0 .0 .0 .0 .1)) (not .0 .0 .0 .0 .0 .0 .0 .1)) (not .0 .0 .0 .0 .0 .0 .1)) (not .0 .0 .0 .0 .0 .1)) (not .0 .0 .0 .0 .1)) (not .0 .0 .0 .1)) (not .0 .0 .1)) (not .0 .1)) (not .1) in
+    let l : 16 ≤ c .before .args .number = past 15 _ (past 14 _ (past 13 _ (past 12 _ (past 11 _ (past 10 _ (past 9 _ (past 8 _ (past 7 _ (past 6 _ (past 5 _ (past 4 _ (past 3 _ (past 2 _ (past 1 _ (past 0 _ (omega arith) (not .0 .0 .0 .0 .0 .0 .0 .0 .0 .0 .0 .0 .0 .0 .0 .1)) (not .0 .0 .0 .0 .0 .0 .0 .0 .0 .0 .0 .0 .0 .0 .1)) (not .0 .0 .0 .0 .0 .0 .0 .0 .0 .0 .0 .0 .0 .1)) (not .0 .0 .0 .0 .0 .0 .0 .0 .0 .0 .0 .0 .1)) (not .0 .0 .0 .0 .0 .0 .0 .0 .0 .0 .0 .1)) (not .0 .0 .0 .0 .0 .0 .0 .0 .0 .0 .1)) (not .0 .0 .0 .0 .0 .0 .0 .0 .0 .1)) (not .0 .0 .0 .0 .0 .0 .0 .0 .1)) (not .0 .0 .0 .0 .0 .0 .0 .1)) (not .0 .0 .0 .0 .0 .0 .1)) (not .0 .0 .0 .0 .0 .1)) (not .0 .0 .0 .0 .1)) (not .0 .0 .0 .1)) (not .0 .0 .1)) (not .0 .1)) (not .1) in
     sym (List·getD-eq-default verdicts (Refused Malformed) l)
 
 pub verdict-by-spec : {M : Type 1} → statement M
-verdict-by-spec = tie.close (tie.spec returns returns-2 returns-3 returns-4 returns-5 returns-6 returns-7 returns-8 returns-9 returns-10 returns-11 returns-12 returns-13 returns-14 returns-15 returns-16)
+verdict-by-spec = tie.close (tie.spec returns returns-2 returns-3 returns-4 returns-5 returns-6 returns-7 returns-8 returns-9 returns-10 returns-11 returns-12 returns-13 returns-14 returns-15 returns-16 returns-17)

@@ -5,7 +5,7 @@ use mathlib.Core.Logic.{inl, inr, ⊎-elim}
 use native.Mathlib.Omega.{arith}
 use Rattle.protocol.specs.Lines.{restDigits}
 use Rattle.decoding.specs.Fields.{fieldsBy}
-use Rattle.decoding.proofs.Reading.{allHave, keyed-digits, change-digits, past-shapes, no-digits}
+use Rattle.decoding.proofs.Reading.{allHave, keyed-digits, two-digits, no-digits}
 use Rattle.decoding.proofs.read.fields_of.Statement.{statement}
 use Rattle.decoding.proofs.read.fields_of.Tie as tie
 
@@ -24,7 +24,7 @@ returns-3 c = rw (keyed-digits 20 (8 ∷ 13 ∷ []) _ refl (c .before .match .ke
 returns-4 : tie.Need-returns-4
 unfolding fieldsBy allHave restDigits
 returns-4 c =
-    rw (⊎-elim (λ w. keyed-digits 4 (7 ∷ 10 ∷ 12 ∷ 15 ∷ []) _ refl (w .keys2)) (λ w. change-digits _ (w .0 .rest .1) (w .1 .taken)) (c .before .match .came)) (c .two-fields .ensures)
+    rw (⊎-elim (λ w. keyed-digits 4 (7 ∷ 10 ∷ 12 ∷ []) _ refl (w .keys2)) (λ w. let no = w .0 .rest in two-digits _ (w .1 .taken) (no .1) (no .0 .0 .0 .0 .1) (no .0 .0 .1) (no .0 .1)) (c .before .match .came)) (c .two-fields .ensures)
 
 returns-5 : tie.Need-returns-5
 unfolding fieldsBy
@@ -32,9 +32,7 @@ returns-5 c = rw (no-digits (c .before .before .args .kind) (inl (omega arith)))
 
 returns-6 : tie.Need-returns-6
 unfolding fieldsBy
-returns-6 c =
-    let no = c .before .match .rest in
-    rw (no-digits _ (inr (past-shapes _ (c .if1 .left) (no .0 .0 .0 .0 .1) (no .0 .0 .0 .1) (no .0 .0 .1) (no .0 .1))))
+returns-6 c = rw (no-digits _ (inr (c .if1 .left)))
 
 pub fields-of-spec : {M : Type 1} → statement M
 fields-of-spec =

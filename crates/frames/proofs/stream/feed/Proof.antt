@@ -11,11 +11,11 @@ use Rattle.frames.proofs.stream.feed.Statement.{statement}
 use Rattle.frames.proofs.stream.feed.Tie as tie
 
 abbrev Inv-loop : tie.InvT-loop
-Inv-loop roles₀ readers₀ forwards₀ users₀ version₀ opened₀ counts₀ roots₀ reaches₀ versions₀ denies₀ rolesets₀ input out₀ high low at₀ written₀ roles readers forwards users version opened counts roots reaches versions denies rolesets out at written =
-    Feeding input out₀ (engineOf (directoryOf (tablesOf roles₀ readers₀ forwards₀) users₀ version₀) (sessionsOf opened₀ counts₀ roots₀ reaches₀ versions₀ denies₀ rolesets₀)) out (engineOf (directoryOf (tablesOf roles readers forwards) users version) (sessionsOf opened counts roots reaches versions denies rolesets)) at written
+Inv-loop roles₀ readers₀ forwards₀ mandates₀ users₀ version₀ opened₀ counts₀ roots₀ reaches₀ versions₀ denies₀ rolesets₀ input out₀ high low at₀ written₀ roles readers forwards mandates users version opened counts roots reaches versions denies rolesets out at written =
+    Feeding input out₀ (engineOf (directoryOf (tablesOf roles₀ readers₀ forwards₀ mandates₀) users₀ version₀) (sessionsOf opened₀ counts₀ roots₀ reaches₀ versions₀ denies₀ rolesets₀)) out (engineOf (directoryOf (tablesOf roles readers forwards mandates) users version) (sessionsOf opened counts roots reaches versions denies rolesets)) at written
 
 abbrev μ-loop : tie.MeasureT-loop
-μ-loop roles₀ readers₀ forwards₀ users₀ version₀ opened₀ counts₀ roots₀ reaches₀ versions₀ denies₀ rolesets₀ input out₀ high low at₀ written₀ roles readers forwards users version opened counts roots reaches versions denies rolesets out at written =
+μ-loop roles₀ readers₀ forwards₀ mandates₀ users₀ version₀ opened₀ counts₀ roots₀ reaches₀ versions₀ denies₀ rolesets₀ input out₀ high low at₀ written₀ roles readers forwards mandates users version opened counts roots reaches versions denies rolesets out at written =
     length input - at
 
 loop-holds : tie.Need-loop-holds Inv-loop μ-loop
@@ -34,20 +34,20 @@ inside c = line-inside (line (c .before .before)) (not-false _ (c .if2 .left))
 
 answer-call-requires : tie.Need-answer-call-requires Inv-loop μ-loop
 answer-call-requires c κs =
-    let test = c .before .before .before .before .before .before .before .before .before .before .before .before .before .before .before .before .before .before in
+    let test = c .before .before .before .before .before .before .before .before .before .before .before .before .before .before .before .before .before .before .before in
     let l = written-fits _ _ _ _ _ _ _ (test .before .before .loop .inv) in
     let r = test .if1 .left in
     omega arith
 
 add-at : tie.Need-add-at Inv-loop μ-loop
 add-at c =
-    let l = inside (c .before .before .before .before .before .before .before .before .before .before .before .before .before .before .before .before) in
-    let g = c .before .before .before .before .before .before .before .before .before .before .before .before .before .before .before .before .before .before .before .before .before .before .before .before .before .before .before .before .good in
+    let l = inside (c .before .before .before .before .before .before .before .before .before .before .before .before .before .before .before .before .before) in
+    let g = c .before .before .before .before .before .before .before .before .before .before .before .before .before .before .before .before .before .before .before .before .before .before .before .before .before .before .before .before .before .good in
     omega arith
 
 loop-less : tie.Need-loop-less Inv-loop μ-loop
 loop-less c =
-    let test = c .before .before .before .before .before .before .before .before .before .before .before .before .before .before .before .before in
+    let test = c .before .before .before .before .before .before .before .before .before .before .before .before .before .before .before .before .before in
     let l = inside test in
     let t = test .before .before .before .before .before .before .loop-test .taken in
     let p = line (test .before .before) .place in
@@ -55,7 +55,7 @@ loop-less c =
 
 loop-again : tie.Need-loop-again Inv-loop μ-loop
 loop-again c =
-    let ended = c .before .before .before .before .before .before .before .before .before .before .before .before .before .before .before .before in
+    let ended = c .before .before .before .before .before .before .before .before .before .before .before .before .before .before .before .before .before in
     let read = ended .before .before in
     let test = read .before .before .before in
     feeding-step _ _ _ _ _ _ _ (test .before .before .loop .inv) (read .next-line .result) _ _ _ (line read) (not-false _ (ended .if2 .left)) (test .if1 .left) (c .before .before .answer-call .ensures .0) (c .before .before .answer-call .ensures .1)
