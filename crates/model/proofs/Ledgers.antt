@@ -75,7 +75,7 @@ unfolding firstOf
 settled a b c g h i p e = let w = none-met a b c g h i false e in rw (w .0, w .1, w .2, w .3, w .4, w .5)
 
 -- a test that a mandate passes: outside one it is met where it says so
-outside : (m x : Bool) → m ≡ false → (not m && x) ≡ false → x ≡ false
+pub outside : (m x : Bool) → m ≡ false → (not m && x) ≡ false → x ≡ false
 outside m x h e = rw h at e
 
 -- and two such tests are the same where they agree on what comes to them

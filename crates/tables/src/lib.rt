@@ -1,6 +1,6 @@
 // The four tables: who holds which role, which role may read which database, which database forwards
-// to which, and which role has a mandate at which database. What is asked and changed is in `lent`, on rows that are lent; `tables_by_value`
-// has it for tables by value.
+// to which, and which role has a mandate at which database. What is asked and changed is in `lent`, on
+// rows that are lent; `tables_by_value` has it for tables by value.
 //
 // Every function answers for any numbers: above its limit nothing is there, and nothing changes.
 pub mod lent;

@@ -6,6 +6,7 @@ use mathlib.Core.Path.{_≡_}
 use mathlib.Core.Bool.{Bool, true, false, cond}
 use mathlib.Core.List.{List, [], _∷_, _++_}
 use lib.Dec.{eqb}
+use lib.ListN.{take}
 use Rattle.protocol.specs.Run.{run}
 use Rattle.protocol.specs.Specification.{lineFeed, Output}
 
@@ -66,6 +67,19 @@ worked =
     ∷ line (0x30 ∷ 0x61 ∷ []) (0x30 ∷ 0x31 ∷ [])
     ∷ []
 
+-- K3: the run up to its read that is refused as linkable; then a mandate, after which the same read is granted: user 1 has been granted both flows.
+-- The permission under the mandate can't be revoked.
+unfoldable pub duty : List Pair
+duty =
+    take 13 worked
+    -- 100101  000006
+    ++ (line (0x31 ∷ 0x30 ∷ 0x30 ∷ 0x31 ∷ 0x30 ∷ 0x31 ∷ []) (0x30 ∷ 0x30 ∷ 0x30 ∷ 0x30 ∷ 0x30 ∷ 0x36 ∷ [])
+    -- 0901000101  00
+    ∷ line (0x30 ∷ 0x39 ∷ 0x30 ∷ 0x31 ∷ 0x30 ∷ 0x30 ∷ 0x30 ∷ 0x31 ∷ 0x30 ∷ 0x31 ∷ []) (0x30 ∷ 0x30 ∷ [])
+    -- 040101  0f
+    ∷ line (0x30 ∷ 0x34 ∷ 0x30 ∷ 0x31 ∷ 0x30 ∷ 0x31 ∷ []) (0x30 ∷ 0x66 ∷ [])
+    ∷ [])
+
 -- the frames as the program's input, each with its line feed, and the answers as its output
 unfoldable pub inputOf : List Pair → List ℕ
 inputOf [] = []
@@ -97,3 +111,6 @@ pub record Settled : Type 0 where
   -- of the term bank's sessions the same
   pub bank-written : run (bankInputOf worked) ≡ outputOf worked
   pub bank-allowed : Output (bankInputOf worked) (outputOf worked)
+  -- and of the run with a mandate
+  pub duty-written : run (inputOf duty) ≡ outputOf duty
+  pub duty-allowed : Output (inputOf duty) (outputOf duty)
