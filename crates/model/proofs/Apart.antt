@@ -21,6 +21,7 @@ use Rattle.model.specs.Ledger.{Ledger, Flow, start, same, flowOf, reachO
 use Rattle.model.specs.Refusals.{due, spent, flowAdded, newFlow, rows, changeRows, askRows, checkRows, readRows, firstMet, refusal, accepts, entered, renewed, withFlows, asked, taken, ledgerStep, ledgerAfter}
 use Rattle.model.specs.Demands.{callAt, ledgerAt}
 use Rattle.model.specs.Products.{isOf, struck, numbersLeft, ForwardsFirst}
+use Rattle.model.proofs.Ledgers.{step-by}
 
 -- ---- a ledger without one product's sessions
 
@@ -142,22 +143,13 @@ pub chosen : (f : Ledger → Ledger) (a b : Bool) (x y z w : Ledger) → b ≡ a
 chosen f true b x y z w e h k = rw e h
 chosen f false b x y z w e h k = rw e k
 
--- a step keeps what an accepted call keeps
-step-keeps : (P : Ledger → Type 0) (l : Ledger) (c : Call) → (accepts l c ≡ true → P (taken l c)) → P l → P (ledgerStep l c)
-unfolding ledgerStep
-step-keeps P l c h k = go (accepts l c) h
-  where
-    go : (a : Bool) → (a ≡ true → P (taken l c)) → P (cond a (taken l c) l)
-    go true h = h refl
-    go false h = k
-
 pub same-step : (q : Product) (l : Ledger) (c : Call) → isOf q c ≡ false → Early l c → without q (ledgerStep l c) ≡ ledgerStep (without q l) c
 unfolding ledgerStep accepts
 same-step q l c h k =
     chosen (without q) (eqb (refusal l c) 0) (eqb (refusal (without q l) c) 0) (taken l c) l (taken (without q l) c) (without q l) (ap (λ (n : ℕ). eqb n 0) (same-refusal q l c h k)) (same-taken q l c h) refl
 
 pub other-step : (q : Product) (l : Ledger) (c : Call) → isOf q c ≡ true → without q (ledgerStep l c) ≡ without q l
-other-step q l c h = step-keeps (λ m. without q m ≡ without q l) l c (λ a. other-taken q l c h) refl
+other-step q l c h = step-by (λ m. without q m ≡ without q l) l c refl (λ a. other-taken q l c h)
 
 -- ---- the premise
 
@@ -192,7 +184,7 @@ no-flow-taken l (Read p u s f d) h k = h
 no-flow-taken l Unreadable h k = h
 
 no-flow-step : (l : Ledger) (c : Call) → NoFlow l → ((p : Product) (s root chosen : ℕ) → c ≡ Session p s (Add root chosen) → accepts l c ≡ true → ⊥) → NoFlow (ledgerStep l c)
-no-flow-step l c h k = step-keeps NoFlow l c (λ a. no-flow-taken l c h (λ p s root chosen e. k p s root chosen e a)) h
+no-flow-step l c h k = step-by NoFlow l c h (λ a. no-flow-taken l c h (λ p s root chosen e. k p s root chosen e a))
 
 pub no-flow-yet : (l : Ledger) (cs : List Call) (i : ℕ) → NoFlow l
     → ((j : ℕ) (p : Product) (s root chosen : ℕ) → j < i → callAt cs j ≡ Session p s (Add root chosen) → accepts (ledgerAfter l (take j cs)) (callAt cs j) ≡ true → ⊥)

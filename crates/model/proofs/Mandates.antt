@@ -2,15 +2,15 @@
 -- Assumes nothing.
 use Prim.Native.Nat.{ℕ, zero, suc, _<_}
 use mathlib.Core.Path.{_≡_, refl, sym, ap, _∙_}
-use mathlib.Core.Bool.{Bool, true, false, not, _&&_, true≢false}
+use mathlib.Core.Bool.{Bool, true, false, cond, not, _&&_, _||_, true≢false}
 use mathlib.Core.List.{List, [], _∷_}
 use mathlib.Core.Logic.{⊎-elim}
 use native.Mathlib.Decide.{decLt}
 use native.Mathlib.Omega.{arith}
 use lib.Dec.{leb, eqb}
 use lib.ListN.{length, take}
-use borrow.Author.Tests.{lt-leb, eqb-true, not-false}
-use Rattle.sets.proofs.Laws.{and-both, and-true, or-either, or-left, some-nowhere}
+use borrow.Author.Tests.{leb-false, lt-leb, eqb-true, not-false}
+use Rattle.sets.proofs.Laws.{and-both, and-true, or-either, or-neither, or-left, some-nowhere}
 use Rattle.tables.specs.Tables.{roleCount, databaseCount, mayRead, hasMandate}
 use Rattle.model.specs.declared.Directory.{Directory}
 use Rattle.model.specs.declared.Engine.{Engine}
@@ -25,13 +25,13 @@ use Rattle.model.specs.declared.calls.Call.{Call}
 use Rattle.model.specs.declared.calls.Call.the-variants.{Table, Session, Read, Unreadable}
 use Rattle.model.specs.declared.calls.Verdict.the-variants.{Granted, Refused}
 use Rattle.model.specs.declared.calls.Answer.the-variants.{Refused as Answer·Refused}
-use Rattle.model.specs.Calls.{verdictOf, Done, done, refuse, revoke, mandate, change, step, answer, verdict}
+use Rattle.model.specs.Calls.{numberOf, returned, verdictOf, Done, done, refuse, revoke, mandate, change, step, answer, verdict}
 use Rattle.model.specs.Ledger.{Ledger, start, linked, underMandate}
-use Rattle.model.specs.Refusals.{rows, changeRows, refusal, accepts, plus, minus, entered, renewed, withFlows, asked, taken, ledgerStep, ledgerAfter}
+use Rattle.model.specs.Refusals.{spent, rows, changeRows, firstMet, refusal, accepts, plus, minus, entered, renewed, withFlows, asked, taken, ledgerStep, ledgerAfter}
 use Rattle.model.specs.Demands.{seen, callAt, engineAt, ledgerAt}
 use Rattle.model.specs.Mandates.{Mandates, NoMandate, Before}
 use Rattle.model.proofs.Chains.{not-met}
-use Rattle.model.proofs.SeenRows.{permits-seen, mandates-seen}
+use Rattle.model.proofs.SeenRows.{permits-seen, mandates-seen, number}
 use Rattle.model.proofs.Ledgers.{duty-rows, step-by, along, ledger-step}
 use Rattle.model.proofs.Lasting.{past-end}
 use Rattle.model.proofs.Demands.{told, numbered, demand3}
@@ -151,6 +151,33 @@ revoke-refused e r d l k m h =
     ∙ passed (not (mayRead (e .directory .tables) r d)) NotThere _ _ (ap not m)
     ∙ met (hasMandate (e .directory .tables) r d) Mandated _ _ h)
 
+-- and what they say of the pair, by the rows of what a ledger sees
+accepted-mandate : (e : Engine) (r d : ℕ) → verdict e (Table (Mandate r d)) ≡ Granted
+    → (r < roleCount) × (d < databaseCount) × (mayRead (e .directory .tables) r d ≡ true) × (hasMandate (e .directory .tables) r d ≡ false)
+unfolding returned rows changeRows
+accepted-mandate e r d h =
+    let a = not-met 1 _ _ (sym (number e (Table (Mandate r d))) ∙ ap returned h) in
+    let b = or-neither (leb roleCount r) (leb databaseCount d) (a .0) in
+    let m = not-met 2 _ _ (a .1) in
+    let p = not-met 3 _ _ (m .1) in
+    let l : r < roleCount = leb-false roleCount r (b .0) in
+    (l, leb-false databaseCount d (b .1), permits-seen e r d l ∙ not-false (seen e .mayRead r d) (p .0), mandates-seen e r d l ∙ m .0)
+
+fifteenth : (a b m s : Bool) → _≡_ {A = ℕ} (cond a 2 (cond b 4 (cond m 15 (cond s 9 0)))) 15 → (a ≡ false) × (m ≡ true)
+fifteenth true b m s h = absurd (omega arith)
+fifteenth false true m s h = absurd (omega arith)
+fifteenth false false true s h = (refl, refl)
+fifteenth false false false true h = absurd (omega arith)
+fifteenth false false false false h = absurd (omega arith)
+
+refused-revoke : (e : Engine) (r d : ℕ) → verdict e (Table (Revoke r d)) ≡ Refused Mandated → (r < roleCount) × (d < databaseCount) × (hasMandate (e .directory .tables) r d ≡ true)
+unfolding returned numberOf rows changeRows firstMet
+refused-revoke e r d h =
+    let w = fifteenth (leb roleCount r || leb databaseCount d) (not (seen e .mayRead r d)) (seen e .mandated r d) (spent (seen e) (Revoke r d)) (sym (number e (Table (Revoke r d))) ∙ ap returned h) in
+    let b = or-neither (leb roleCount r) (leb databaseCount d) (w .0) in
+    let l : r < roleCount = leb-false roleCount r (b .0) in
+    (l, leb-false databaseCount d (b .1), mandates-seen e r d l ∙ w .1)
+
 -- ---- the record
 
 -- what the engine holds is what the ledger does
@@ -165,10 +192,10 @@ permits cs i r d l h =
 pub mandates : (cs : List Call) → Mandates cs
 unfolding refusal rows
 mandates cs = record {
-  accepted = λ i r d. mandate-accepted (engineAt cs i) r d;
+  accepted = λ i r d. (accepted-mandate (engineAt cs i) r d, λ w. mandate-accepted (engineAt cs i) r d (w .0) (w .1) (w .2) (w .3));
   lasts = λ i j r d m l h.
       mandated-at cs j r d l ∙ along (λ k. ledgerAt cs k .mandated r d ≡ true) i j m (sym (mandated-at cs i r d l) ∙ h) (λ k a b t. lasts-next cs k r d t);
-  stands = λ i r d l k h. revoke-refused (engineAt cs i) r d l k (permits cs i r d l h) h;
+  stands = λ i r d. (refused-revoke (engineAt cs i) r d, λ w. revoke-refused (engineAt cs i) r d (w .0) (w .1) (permits cs i r d (w .0) (w .2)) (w .2));
   permitted = permits cs;
   granted = λ p i u s f d l c h n.
       told (verdict (engineAt cs i) (Read p u s f d)) false (numbered cs i (Read p u s f d) ∙ duty-rows (ledgerAt cs i) (linked (ledgerAt cs i)) p u s f d h ∙ n);

@@ -4,7 +4,7 @@ use Prim.Native.Nat.{ℕ, _≤_, _<_}
 use mathlib.Core.Path.{_≡_}
 use mathlib.Core.Bool.{true, false, cond}
 use mathlib.Core.List.{List}
-use mathlib.Core.Logic.{_≢_}
+use mathlib.Core.Logic.{_↔_, _≢_}
 use lib.ListN.{length}
 use Rattle.tables.specs.Tables.{roleCount, databaseCount, mayRead, hasMandate}
 use Rattle.model.specs.declared.calls.Refusal.the-variants.{Linkable, Mandated}
@@ -21,13 +21,13 @@ use Rattle.model.specs.Demands.{callAt, engineAt, ledgerAt, takesFrom}
 use Rattle.model.specs.Steps.{tablesAt}
 
 pub record Mandates (cs : List Call) : Type 0 where
-  -- "Kind 10 with rr dd puts a mandate on a permitted pair", before and after flows and at every version
-  pub accepted : (i r d : ℕ) → r < roleCount → d < databaseCount → mayRead (tablesAt cs i) r d ≡ true → hasMandate (tablesAt cs i) r d ≡ false
-      → verdict (engineAt cs i) (Table (Mandate r d)) ≡ Granted
+  -- "Kind 10 with rr dd puts a mandate on a permitted pair", on no other and not twice; before and after flows and at every version
+  pub accepted : (i r d : ℕ) → (verdict (engineAt cs i) (Table (Mandate r d)) ≡ Granted)
+      ↔ ((r < roleCount) × (d < databaseCount) × (mayRead (tablesAt cs i) r d ≡ true) × (hasMandate (tablesAt cs i) r d ≡ false))
   -- no call lifts it
   pub lasts : (i j r d : ℕ) → i ≤ j → r < roleCount → hasMandate (tablesAt cs i) r d ≡ true → hasMandate (tablesAt cs j) r d ≡ true
-  -- nor the permission that it stands on: "15 when a permission with a mandate on it is to be revoked", at every version
-  pub stands : (i r d : ℕ) → r < roleCount → d < databaseCount → hasMandate (tablesAt cs i) r d ≡ true → verdict (engineAt cs i) (Table (Revoke r d)) ≡ Refused Mandated
+  -- nor the permission that it stands on: "15 when a permission with a mandate on it is to be revoked", then alone, and at every version
+  pub stands : (i r d : ℕ) → (verdict (engineAt cs i) (Table (Revoke r d)) ≡ Refused Mandated) ↔ ((r < roleCount) × (d < databaseCount) × (hasMandate (tablesAt cs i) r d ≡ true))
   -- so a mandated pair is always a permitted one
   pub permitted : (i r d : ℕ) → r < roleCount → hasMandate (tablesAt cs i) r d ≡ true → mayRead (tablesAt cs i) r d ≡ true
   -- demand 2: "A user who holds rr passes checks 13 and 14 when reading at dd": under a mandate a read that meets none of rows 2 to 12 is granted
