@@ -37,8 +37,8 @@ signal.signal(signal.SIGPIPE, signal.SIG_IGN)
 KINDS = ["mixed", "reads", "edges", "versions", "noise", "turns"]
 if "," in seeds:
     seeds = [s for s in seeds.split(",") if s]
-else:       # odd and even in turn: lists of kinds versions and turns differ by that
-    seeds = [str(random.SystemRandom().randrange(10 ** 6) * 2 + i % 2) for i in range(int(seeds))]
+else:       # remainders by four in turn: lists of kinds versions and turns go by that
+    seeds = [str(random.SystemRandom().randrange(10 ** 6) * 4 + i % 4) for i in range(int(seeds))]
 
 counts = {k: {} for k in KINDS}
 differ = 0
@@ -46,8 +46,11 @@ differ = 0
 # Whose frames: 01 to 05 and 10 are of the tables, 06 to 0a the server's, 0b to
 # 0f the term bank's.  A line counts by its first two digits, malformed or not.
 ROWS = 15
+# Row 9 needs 4294967295 changes before it, so no list meets it.  It is tried by
+# engines made at the limit, in a program crate `limit_try`.
+LIMIT = 9
 OWNERS = ["tables", "server", "bank", "no kind"]
-POSSIBLE = {"tables": {0, 1, 2, 3, 4, 5, 9, 15}, "no kind": {1}}
+POSSIBLE = {"tables": {0, 1, 2, 3, 4, 5, 15}, "no kind": {1}}
 POSSIBLE["server"] = POSSIBLE["bank"] = {0, 1, 2, 3, 6, 7, 8, 10, 11, 12, 13, 14}
 OWNER = {b"%02x" % k: OWNERS[(k - 1) // 5] for k in range(1, 16)}
 OWNER[b"10"] = "tables"
@@ -182,8 +185,8 @@ for kind in KINDS:
 print("\nanswer" + "".join("%10s" % k for k in KINDS) + "%10s" % "all")
 for n in range(ROWS + 1):
     row = [counts[k].get("%02x" % n, 0) for k in KINDS]
-    print("%02x    " % n + "".join("%10d" % x for x in row) + "%10d" % sum(row)
-          + ("" if sum(row) else "   not reached"))
+    print("%02x    " % n + "".join("%10s" % (x if x or n != LIMIT else ".") for x in row + [sum(row)])
+          + ("" if sum(row) or n == LIMIT else "   not reached"))
 for where, table in owned.items():
     print("\n%-6s" % where + "".join("%10s" % x for x in OWNERS))
     for n in range(ROWS + 1):

@@ -1,8 +1,10 @@
 #!/usr/bin/env python3
-"""Lists of frames for the linkage engine of document 01 with requests K1 and K3.
+"""Lists of frames for the linkage engine of document 01 with requests K1, K3, K4.
 
     generate.py KIND SEED LINES > list      a list, the same for the same seed
     generate.py answers < list > answers    the answers of the model below
+    generate.py answers 4294967294 < list   the same, the system version not 0 at
+                                            the start but this one
     generate.py mandates < list             how many reads under a mandate it has,
                                             by the row they would meet without it
 
@@ -10,7 +12,8 @@ KIND is one of
     mixed     all calls; deep states, chosen sets that conflict, every verdict
     reads     a set-up, then 95 reads in 100 lines
     edges     limits, eighth and ninth flow, a reach of 64, malformed lines
-    versions  the system version driven to 65535 and past it
+    versions  the system version driven past 65535: flows, users and calls of
+              all kinds on either side of it
     noise     random bytes, broken frames, huge lines, no last line feed
     turns     the server's and the term bank's frames in turn, on one session
               number at a time
@@ -22,18 +25,22 @@ none is ever lifted, and with many most reads would be granted.
 
 A list has LINES lines, or more where the kind needs them: a list of kind
 edges has some 1500 at least, one of kind versions some 66600, one of kind
-turns some 250.  Row 9 needs 65535 changes before it, so of the mixed lists
-only those of 150000 lines or more meet it; versions always does.  Of the lists
-of kind versions those of an odd seed have no flow before the limit.  Of those
-of kind turns the server's first flow closes forwarding where the seed is odd,
-the term bank's where it is even.
+turns some 250.  Row 9 needs 4294967295 changes before it, and no list meets it.
+A program that keeps 16 bits of a version is right up to 65535.  The mixed lists
+of 150000 lines or more go past that, and those of kind versions always do.  Of
+these the lists of even seeds have flows from version 256 on, those of seeds 1, 5,
+9 and so on from 65530 on, those of seeds 3, 7, 11 and so on from 65537 on, and
+forwarding is open till then.  Of the lists of kind turns the server's first flow
+closes forwarding where the seed is odd, the term bank's where it is even.
 """
 
 import random
 import sys
 
 USERS, ROLES, DATABASES, SESSIONS, FLOWS = 256, 64, 64, 16, 8
-LAST_VERSION = 65535
+LAST_VERSION = 4294967295
+VERSION_DIGITS = 8
+FOUR_DIGITS = 65535         # the last version of four digits: lists go past it
 PRODUCTS = SERVER, BANK = "server", "bank"
 
 
@@ -48,12 +55,12 @@ class Flow:
 
 
 class Engine:
-    def __init__(self):
+    def __init__(self, system=0):
         self.holds = set()          # (user, role)
         self.may_read = set()       # (role, database)
         self.forwards = set()       # (database, database)
         self.mandates = set()       # (role, database)
-        self.system = 0
+        self.system = system
         self.version = {u: 0 for u in range(USERS)}
         self.sessions = {}          # (product, number): list of flows
         self._roles = {}            # roles(u), kept until the user's roles change
@@ -110,7 +117,7 @@ class Engine:
             self.version[u] = self.system
 
     def done(self):
-        return 0, "%04x" % self.system
+        return 0, version(self.system)
 
     def assign(self, u, r):
         if r >= ROLES:
@@ -214,7 +221,7 @@ class Engine:
         parents = {r for r in {q for (u, q) in self.holds} if any(self.parent(r, o) for o in deny)}
         role_sets = [{r for r in parents if r in self.readers(x)} for x in reaches]
         flows.append(Flow(d, reaches[-1], self.system, frozenset(deny), role_sets))
-        return 0, "%02x%02x%04x" % (len(flows) - 1, len(reaches[-1]), self.system)
+        return 0, "%02x%02x%s" % (len(flows) - 1, len(reaches[-1]), version(self.system))
 
     def read(self, product, u, s, f, d):
         """K3: under a mandate 13 and 14 are passed, and no row is left after them."""
@@ -254,8 +261,8 @@ class Engine:
         if f >= len(flows):
             return 10, ""
         flow = flows[f]
-        return 0, "%04x%s%s" % (flow.version, role_set(flow.deny),
-                                "".join(role_set(x) for x in flow.role_sets))
+        return 0, "%s%s%s" % (version(flow.version), role_set(flow.deny),
+                              "".join(role_set(x) for x in flow.role_sets))
 
     # Frames: the call, whose it is, how many fields of two digits, and whether
     # a role set follows them.
@@ -300,8 +307,12 @@ def role_set(roles):
     return "%016x" % sum(2 ** r for r in roles)
 
 
-def answers():
-    engine, data = Engine(), sys.stdin.buffer.read()
+def version(number):
+    return "%0*x" % (VERSION_DIGITS, number)
+
+
+def answers(start=0):
+    engine, data = Engine(start), sys.stdin.buffer.read()
     lines = data.split(b"\n")
     for line in lines[:-1]:
         print(engine.answer(line))
@@ -812,7 +823,8 @@ def mixed(seed, lines):
         if w.chance(0.06):
             w.line(w.early(w.product()))
     additions = w.between(100, SESSIONS * FLOWS)        # in each product
-    # Changes may give 65535 versions in all: their part in a long list is less.
+    # The part of changes in a long list is less, as before K4, when they could
+    # give 65535 versions in all: so times can be compared.
     changes = min(24, 40000 / max(1, lines) * 100)
     dear = min(1, 20000 / max(1, lines))
     while w.more():
@@ -827,8 +839,8 @@ def mixed(seed, lines):
                 w.gone(p)
             else:
                 w.real_addition(p)
-        # A long list ends at 65535: every second line rises when it is time.
-        missing = LAST_VERSION - w.engine.system
+        # A long list goes past 65535: every second line rises when it is time.
+        missing = FOUR_DIGITS + 1 - w.engine.system
         if lines >= 150000 and 0 < missing and (0.97 * lines - w.count) / 2 <= missing:
             w.line(w.toggle())
         call = w.weighted([(45, "read"), (changes, "change"), (5, "query"), (5, "add"),
@@ -1075,68 +1087,90 @@ def edges(seed, lines):
 
 def versions(seed, lines):
     w = List("versions", seed, lines)
-    # With early flows forwarding is closed long before the limit; without
-    # them it is still open there.  The seed's parity decides.
-    early = int(seed) % 2 == 0 if str(seed).lstrip("-").isdigit() else w.chance(0.5)
+    e = w.engine
+    # Early flows close forwarding long before 65535; with late ones it is
+    # still open at 65536.
+    case = int(seed) % 4 if str(seed).lstrip("-").isdigit() else w.below(4)
+    early, late = case % 2 == 0, case == 3
     users, roles, databases = [0, 1, 2, 3, 254, 255], [0, 1, 2, 3, 62, 63], list(range(6)) + [62, 63]
     held = roles[:-1]                                   # role 63 is for one user alone
+    # Users who get a version near 65535 and keep it, one who has its version
+    # from the start, and one who gets 32768.  Role 24 is theirs and reads all
+    # databases; each of the first has the role twelve below its own number too.
+    keepers, first, middle, theirs = list(range(16, 36)), 36, 37, 24
+    readers = keepers + [first, middle]
+    apart = set(range(4, 25))
+    sessions = [0, 1, 15]
     for u in users:
         for r in w.some(held, w.between(2, 3)):
             w.line(frame(1, u, r))
     w.line(frame(1, 9, 63))
+    for d in databases:
+        w.line(frame(3, theirs, d))                     # nobody holds it yet
+    w.line(frame(1, first, theirs))
     for r in held:
         for d in w.some(databases, 3):
             w.line(frame(3, r, d))
     for _ in range(5):
         w.line(frame(5, w.pick(databases), w.pick(databases)))
-    for s in (0, 1, 15):
+    for s in sessions:
         for p in PRODUCTS:
             w.line(ask(p, 6, s))
 
-    def add(p, s):
-        flows = w.engine.sessions[p, s]
+    def add(p, s, denied=()):
+        """A flow; of the keepers' roles none but those named is chosen."""
+        flows = e.sessions[p, s]
         d = w.pick(databases)
-        found = sorted(w.engine.conflicting([f.reach for f in flows] + [w.engine.reach(d)])) \
+        found = sorted(e.conflicting([f.reach for f in flows] + [e.reach(d)])) \
             if len(flows) < FLOWS else []
-        return w.line(frame_add(p, s, d, w.some(found, w.between(0, 2))))
+        chosen = w.some([r for r in found if r not in apart], w.between(0, 2))
+        return w.line(frame_add(p, s, d, chosen + [r for r in denied if r in found]))
+
+    def pair():
+        """A role that somebody holds, and a database; no mandate is there."""
+        r, d = w.pick(held), w.pick(databases)
+        while not e.holders(r) or (r, d) in e.mandates:
+            r, d = w.pick(held), w.pick(databases)
+        return r, d
 
     def rise():
         """One line, one version."""
         if w.chance(0.2):
             u, r = w.pick(users), w.pick(held)
-            if (u, r) not in w.engine.holds:
+            if (u, r) not in e.holds:
                 return frame(1, u, r)
-        r, d = w.pick(held), w.pick(databases)
-        while not w.engine.holders(r):
-            r = w.pick(held)
-        return frame(4 if (r, d) in w.engine.may_read else 3, r, d)
+        r, d = pair()
+        return frame(4 if (r, d) in e.may_read else 3, r, d)
+
+    def risen(text):
+        before = e.system
+        w.line(text)
+        assert e.system == before + 1
 
     def look():
         """A line that raises nothing."""
         u, r, d = w.pick(users + [9]), w.pick(roles), w.pick(databases)
-        p, s, f = w.product(), w.pick([0, 1, 15]), w.below(8)
+        p, s, f = w.product(), w.pick(sessions), w.below(8)
         how = w.below(8)
         if how == 0:
             w.line(ask(p, 7, s, d))
         elif how == 1:
             w.line(ask(p, 10, s, f))
         elif how == 2:                                  # a role that nobody holds
-            w.line(frame(4 if (40, d) in w.engine.may_read else 3, 40, d))
-        elif how == 3 and len([x for x in w.engine.holds if x[1] == r]) > 1 and (u, r) in w.engine.holds:
+            w.line(frame(4 if (40, d) in e.may_read else 3, 40, d))
+        elif how == 3 and len([x for x in e.holds if x[1] == r]) > 1 and (u, r) in e.holds:
             w.line(frame(2, u, r))
-        elif how == 4 and w.engine.holds:
-            w.line(frame(1, *w.pick(sorted(w.engine.holds))))
+        elif how == 4 and e.holds:
+            w.line(frame(1, *w.pick(sorted(e.holds))))
         else:
-            f = w.below(max(1, len(w.engine.sessions[p, s])))
+            f = w.below(max(1, len(e.sessions[p, s])))
             w.line(ask(p, 9, u, s, f, d))
 
-    near = [1, 2, 255, 256, 4095, 4096, 32767, 32768, 65279, 65280, 65533, 65534]
-    while w.engine.system < LAST_VERSION:
-        before = w.engine.system
-        w.line(rise())
-        assert w.engine.system == before + 1
-        if w.engine.system in near:
-            if early and w.engine.system > 255:
+    near = [1, 2, 255, 256, 4095, 4096, 32767, 32768, 65279, 65280]
+    while e.system < FOUR_DIGITS - 60:
+        risen(frame(1, middle, theirs) if e.system == 32767 else rise())
+        if e.system in near:
+            if early and e.system > 255:
                 for p in w.some(PRODUCTS, 2):
                     add(p, w.pick([0, 1]))
             for _ in range(8):
@@ -1144,93 +1178,138 @@ def versions(seed, lines):
         elif w.chance(0.002):
             look()
 
-    # At 65535.
-    e = w.engine
-    there = w.pick(sorted(e.holds))
-    absent = w.pick([(u, r) for u in users for r in held if (u, r) not in e.holds] or [(77, 0)])
-    read = w.pick([p for p in sorted(e.may_read) if e.holders(p[0])])
-    unread = w.pick([(r, d) for r in held for d in databases
-                     if (r, d) not in e.may_read and e.holders(r)])
-    w.line(frame(1, *absent))                           # 9
-    w.line(frame(1, *there))                            # 3 before 9
-    w.line(frame(1, absent[0], 64))                     # 2 before 9
-    w.line(frame(2, *absent))                           # 4
-    w.line(frame(3, *unread))                           # 9
-    w.line(frame(3, *read))                             # 3 before 9
-    w.line(frame(3, read[0], 64))
-    w.line(frame(4, *read))                             # 9
-    w.line(frame(4, *unread))                           # 4 before 9
-    w.line(frame(4, 64, 0))
-    for d in (60, 61):                                  # nobody holds role 50
-        w.line(frame(3, 50, d))
-        w.line(frame(3, 50, d))
-        w.line(frame(4, 50, d))
-        w.line(frame(4, 50, d))
-        w.line(frame(3, 50, d))
-    w.line(frame(1, 5, 50))                             # 9, not a permission but a holder
-    w.line(frame(3, 63, 60))                            # 9: one user holds role 63
-    w.line(frame(2, 9, 63))                             # withdrawing is accepted
-    w.line(frame(3, 63, 60))                            # and then nobody does
-    w.line(frame(4, 63, 60))
-    w.line(frame(1, 9, 63))                             # 9: no way back
-    w.line(frame(5, 60, 61))                            # accepted without early flows, else 5
-    w.line(frame(5, 60, 61))
-    w.line(frame(5, 60, 60))
+    # The keepers.  A third of them gets role 24 when it is time, a third a
+    # permission for the role of its own, and of a third it is revoked.
+    ways = w.some([1, 3, 4], 3) * 7
+    for u, way in zip(keepers, ways):
+        if way == 4:
+            w.line(frame(3, u - 12, 60))                # nobody holds it yet
+        if way != 1:
+            risen(frame(1, u, u - 12))
+            risen(frame(1, u, theirs))
     order = w.some(PRODUCTS, 2)
-    for p in order * 2:
-        w.line(ask(p, 6, 2))
-    for s in (2, 15):
-        for _ in range(9):
-            for p in order:
-                add(p, s)
-                w.line(ask(p, 10, s, 0))
-    w.line(frame(5, 61, 62))
-    for s in (0, 1, 2, 15):
-        for f in range(8):
-            for p in order:
-                w.line(ask(p, 10, s, f))
-                for u in users:
-                    w.line(ask(p, 9, u, s, f, w.pick(databases)))
-    for _ in range(300):
-        how = w.below(6)
-        u, r, d = w.pick(users + [9]), w.pick(roles + [50]), w.pick(databases + [60])
-        if how == 0:
-            w.line(frame(1, u, r))
-        elif how == 1 and w.chance(0.3):
-            w.line(frame(2, u, r))
-        elif how == 2:
-            w.line(frame(3, r, d))
-        elif how == 3:
-            w.line(frame(4, r, d))
-        else:
-            p, s = w.product(), w.pick([0, 1, 2, 15])
-            w.line(ask(p, 9, u, s, w.below(max(1, len(e.sessions[p, s]))), d))
+    while e.system < FOUR_DIGITS - 10:
+        risen(rise())
 
-    # Mandates at 65535 need no new version.  Row 15 comes before row 9.
-    there = w.some([x for x in sorted(e.may_read) if e.holders(x[0])] or sorted(e.may_read), 5)
-    for r, d in there[:4]:
-        w.line(frame(4, r, d))                          # 9
+    def standing(k):
+        """All that needs no new version, and rows 2, 3, 4 and 15 of what does."""
+        before = e.system
+        there = w.pick([x for x in sorted(e.holds) if x[0] in users])
+        absent = w.pick([(u, r) for u in users for r in held if (u, r) not in e.holds] or [(77, 0)])
+        r, d = pair()
+        while (r, d) not in e.may_read:
+            r, d = pair()
+        unread = pair()
+        while unread in e.may_read:
+            unread = pair()
+        w.line(frame(1, *there))                        # 3
+        w.line(frame(1, absent[0], 64))                 # 2
+        w.line(frame(2, *absent))                       # 4
+        w.line(frame(2, *there))                        # accepted
+        w.line(frame(2, *there))                        # 4
+        w.line(frame(3, r, d))                          # 3
+        w.line(frame(3, r, 64))
+        w.line(frame(4, *unread))                       # 4
+        w.line(frame(4, 64, 0))
+        for kind in (3, 3, 4, 4, 3):                    # nobody holds role 50
+            w.line(frame(kind, 50, 60 + k))
+        for to in (61 + k, 61 + k, 60 + k):             # accepted if there is no flow, else 5
+            w.line(frame(5, 60 + k, to))
+        w.line(frame(16, *unread))                      # 4
+        w.line(frame(16, r, 64))
+        w.line(frame(16, 64, d))
+        for kind in (16, 16, 4, 3):                     # accepted, 3, 15, 3
+            w.line(frame(kind, r, d))
+        for kind in (16, 3, 16, 16, 4):                 # nobody holds role 51
+            w.line(frame(kind, 51, 60 + k))
+        for p in order * 2:
+            w.line(ask(p, 6, 2 + k))
+        for p in order:
+            w.line(ask(p, 7, 15, w.pick(databases)))
+            w.line(ask(p, 7, 2 + k, w.pick(databases)))
+        sessions.append(2 + k)
+        assert e.system == before
+
+    def reached(p, s, f):
+        return [d for flow in e.sessions[p, s][f:f + 1] for d in databases if d in flow.reach]
+
+    # From 65525 to 65545, a version with each keeper.  Flows are added at some
+    # of them, in session 15 and from 65535 on in session 2.
+    for u, way in zip(keepers, ways):
+        k = e.system - FOUR_DIGITS
+        if k in (0, 1):
+            standing(k)
+        if k in (-5, -1, 0, 1, 2, 5) and not (late and k < 2):
+            for p in order:
+                add(p, 15)
+                if k >= 0:                              # from flow 1 on they are denied there
+                    add(p, 2, [theirs])
+                w.line(ask(p, 10, 15, len(e.sessions[p, 15]) - 1))
+        for p in order:
+            flows = [(s, f) for s in sessions for f in range(len(e.sessions[p, s]))]
+            s, f = w.pick(flows or [(15, 0)])
+            w.line(ask(p, 9, w.pick(readers), s, f, w.pick(reached(p, s, f) or databases)))
+        risen(frame(1, u, theirs) if way == 1 else frame(way, u - 12, 60))
+    assert e.system == FOUR_DIGITS + 10
+
+    def tour(p, s, who):
+        """Each flow of the session is shown, and read where it gets to."""
+        for f in range(len(e.sessions[p, s])):
+            w.line(ask(p, 10, s, f))
+            for u in who:
+                w.line(ask(p, 9, u, s, f, w.pick(reached(p, s, f))))
+
+    for p in order:
+        add(p, 15)
+        tour(p, 15, readers)
+        tour(p, 2, w.some(readers, 6))
+        for s in (0, 1):                                # flows of long ago, if there are any
+            tour(p, s, w.some(keepers, 2) + [first, middle])
+
+    # One user alone holds role 63; nobody but user 5 gets role 50.
+    risen(frame(3, 63, 60))
+    w.line(frame(2, 9, 63))
+    w.line(frame(4, 63, 60))                            # nobody holds it now
+    w.line(frame(3, 63, 60))
+    risen(frame(1, 9, 63))
+    risen(frame(4, 63, 60))
+    risen(frame(1, 5, 50))
+    risen(frame(3, 50, 62))
+    w.line(frame(5, 61, 62))
+
+    # On for some hundred versions; 65791 and 65792 are 255 and 256 in 16 bits.
+    while e.system < FOUR_DIGITS + 260:
+        risen(rise())
+        if e.system in (65600, 65791, 65792):
+            for p in order:
+                add(p, 3)
+                w.line(ask(p, 10, 3, len(e.sessions[p, 3]) - 1))
+        if w.chance(0.15):
+            look()
+    for p in order:
+        while add(p, 2) != 7:
+            pass
+        for s in sessions:
+            tour(p, s, w.some(users, 2) + w.some(readers, 2))
+            w.line(ask(p, 10, s, min(7, len(e.sessions[p, s]))))
+
+    # Mandates need no new version, and row 15 keeps the permission.
+    there = w.some([x for x in sorted(e.may_read - e.mandates) if x[0] in held and e.holders(x[0])], 3)
+    for r, d in there + [(theirs, w.pick(databases))]:
+        if r in held:
+            risen(frame(4, r, d))
+            w.line(frame(16, r, d))                     # 4
+            risen(frame(3, r, d))
         w.line(frame(16, r, d))                         # accepted
         w.line(frame(16, r, d))                         # 3
-        w.line(frame(4, r, d))                          # 15 before 9
+        w.line(frame(4, r, d))                          # 15
         w.line(frame(3, r, d))                          # 3: it is still permitted
-    for r, d in there[4:]:
-        w.line(frame(4, r, d))                          # 9 as before
-    unread = w.pick([(r, d) for r in held for d in databases if (r, d) not in e.may_read])
-    w.line(frame(16, *unread))                          # 4
-    w.line(frame(4, *unread))                           # 4
-    w.line(frame(16, there[0][0], 64))                  # 2
-    w.line(frame(16, 64, there[0][1]))
-    for kind in (16, 3, 16, 16, 4):                     # nobody holds role 51: no version is due
-        w.line(frame(kind, 51, 62))
-    w.line(frame(5, 60, 61))
-    for r, d in there:
-        for s in (0, 1, 2, 15):
+        for s in sessions:
             for p in order:
                 flows = [f for f, flow in enumerate(e.sessions[p, s]) if d in flow.reach]
                 for f in w.some(flows, 3) or [w.below(8)]:
                     w.line(ask(p, 9, w.pick(sorted(e.holders(r)) or users), s, f, d))
-                    w.line(ask(p, 9, w.pick(users), s, f, d))
+                    w.line(ask(p, 9, w.pick(users + readers), s, f, d))
     while w.more():
         if w.chance(0.3):
             how = w.pick([1, 2, 3, 4, 4, 16])
@@ -1431,6 +1510,10 @@ def turns(seed, lines):
     w.flush()
 
 
+def decimal(text):
+    return text.isascii() and text.isdigit()
+
+
 KINDS = {"mixed": mixed, "reads": reads, "edges": edges, "versions": versions, "noise": noise,
          "turns": turns}
 
@@ -1438,6 +1521,10 @@ KINDS = {"mixed": mixed, "reads": reads, "edges": edges, "versions": versions, "
 def main(argv):
     if argv[1:] in (["answers"], ["mandates"]):
         {"answers": answers, "mandates": mandates}[argv[1]]()
+        return 0
+    if argv[1:2] == ["answers"] and len(argv) == 3 and decimal(argv[2]) \
+            and int(argv[2]) <= LAST_VERSION:
+        answers(int(argv[2]))
         return 0
     if len(argv) != 4 or argv[1] not in KINDS or not argv[3].isdigit():
         sys.stderr.write(__doc__)

@@ -1,12 +1,15 @@
 /*
- * The linkage engine of document 01 with requests K1 and K3: reference model
- * and baseline of speed.
+ * The linkage engine of document 01 with requests K1, K3 and K4: reference
+ * model and baseline of speed.
  *
  * Frames on standard input, one a line; one answer line each on standard
- * output.  Sentences in quotation marks are document 01's, or K1's or K3's
- * where that is said.
+ * output.  Sentences in quotation marks are document 01's, or K1's, K3's or
+ * K4's where that is said.
  *
  *     cc -O2 -o model model.c         (C11)
+ *     model < list
+ *     model 4294967294 < list         the system version starts there, not at 0:
+ *                                     no list is long enough to reach the limit
  *
  * Role sets and sets of databases are masks of 64 bits, number 0 the lowest.
  * A read takes the same steps whatever the tables and the sessions hold.
@@ -16,15 +19,18 @@
 #include <stdbool.h>
 #include <stddef.h>
 #include <stdint.h>
+#include <stdio.h>
 #include <string.h>
 #include <unistd.h>
 
 /* "Users 0-255, roles 0-63, databases 0-63, sessions 0-15, at most 8 flows a
  * session numbered 0-7 in order of addition, versions 0-65535." */
-enum {
-    USERS = 256, ROLES = 64, DATABASES = 64, SESSIONS = 16, FLOWS = 8,
-    LAST_VERSION = 65535
-};
+enum { USERS = 256, ROLES = 64, DATABASES = 64, SESSIONS = 16, FLOWS = 8 };
+
+/* K4: "Versions become 32 bits, eight digits in every answer, the limit
+ * 4294967295."  The limit is more than an int holds, so it is no enum. */
+static const uint32_t LAST_VERSION = 4294967295u;
+enum { VERSION_DIGITS = 8 };
 
 /* K1: "Two products on one directory. [...] Each has sixteen sessions of its
  * own."  A product is named by the place of its session 0; session s of it has
@@ -44,7 +50,7 @@ struct flow {
     set reach;              /* root and all that forwarding leads to from it */
     set deny;
     set roles[FLOWS];       /* one role set for each flow up to itself, then empty */
-    unsigned version;
+    uint32_t version;
 };
 
 /* "A fresh engine has 256 user versions of zero, system version 0, empty
@@ -54,8 +60,8 @@ static struct {
     set readers[DATABASES];     /* the roles that may read the database */
     set mandated[DATABASES];    /* K3: those of them that have a mandate there */
     set forwards[DATABASES];    /* the databases that it forwards to */
-    unsigned version[USERS];
-    unsigned system;
+    uint32_t version[USERS];
+    uint32_t system;
     bool flow_added;            /* "some flow has been added in any session";
                                  * K1: "the first flow of either product" */
     bool open[PLACES];
@@ -68,7 +74,8 @@ static struct {
 /* Every call returns 0 (accepted) or the number of the first row it meets;
  * the checks stand in the order of the rows. */
 
-/* 01: "Assigning a role: a new version for that user." */
+/* 01: "Assigning a role: a new version for that user."  K4: "9 is now given at
+ * the new limit." */
 static unsigned assign_role(unsigned user, unsigned role)
 {
     if (role >= ROLES)                      return 2;
@@ -100,7 +107,7 @@ static bool anybody_holds(unsigned role)
  * who hold the role; if nobody does, none." */
 static void new_version_for_holders(unsigned role)
 {
-    unsigned v = ++engine.system;
+    uint32_t v = ++engine.system;
     for (unsigned u = 0; u < USERS; u++)
         engine.version[u] = has(engine.holds[u], role) ? v : engine.version[u];
 }
@@ -332,7 +339,9 @@ static inline unsigned read_flow(unsigned product, unsigned user, unsigned s, un
 
 enum {
     CHUNK = 65536,          /* bytes asked for at a time */
-    LONGEST_ANSWER = 256    /* more than 2 + 4 + 9 * 16 digits and a line feed */
+    SET_DIGITS = ROLES / 4,
+    /* The constraint of a last flow and its line feed: 155 bytes. */
+    LONGEST_ANSWER = 2 + VERSION_DIGITS + SET_DIGITS + FLOWS * SET_DIGITS + 1
 };
 
 static unsigned char out[CHUNK + LONGEST_ANSWER];
@@ -419,12 +428,13 @@ static const unsigned char length[KINDS + 1] = {
     0, 6, 6, 6, 6, 6, 4, 6, 22, 10, 6, 4, 6, 22, 10, 6, 6
 };
 
-/* 01 to 06, 0b and 10: "the system version, four digits" */
+/* 01 to 06, 0b and 10: "the system version, four digits"; K4: "eight digits in
+ * every answer" */
 static void answer_change(unsigned number)
 {
     begin(number);
     if (number == 0)
-        put_number(engine.system, 4);
+        put_number(engine.system, VERSION_DIGITS);
     end_line();
 }
 
@@ -435,7 +445,7 @@ static void answer_query(unsigned product, unsigned s, unsigned root)
     unsigned number = ask_conflicting(product, s, root, &roles);
     begin(number);
     if (number == 0)
-        put_number(roles, 16);
+        put_number(roles, SET_DIGITS);
     end_line();
 }
 
@@ -449,7 +459,7 @@ static void answer_add(unsigned product, unsigned s, unsigned root, set chosen)
     if (number == 0) {
         put_number((set)(f - engine.flow[product + s]), 2);
         put_number((set)__builtin_popcountll(f->reach), 2);
-        put_number(f->version, 4);
+        put_number(f->version, VERSION_DIGITS);
     }
     end_line();
 }
@@ -461,10 +471,10 @@ static void answer_show(unsigned product, unsigned s, unsigned f)
     unsigned number = show_constraint(product, s, f, &shown);
     begin(number);
     if (number == 0) {
-        put_number(shown->version, 4);
-        put_number(shown->deny, 16);
+        put_number(shown->version, VERSION_DIGITS);
+        put_number(shown->deny, SET_DIGITS);
         for (unsigned i = 0; i <= f; i++)
-            put_number(shown->roles[i], 16);
+            put_number(shown->roles[i], SET_DIGITS);
     }
     end_line();
 }
@@ -551,7 +561,20 @@ static const unsigned char *lines(const unsigned char *p, const unsigned char *s
     return p;
 }
 
-int main(void)
+/* The system version to start with, in decimal; false if it is none. */
+static bool start_at(const char *digits)
+{
+    uint64_t v = 0;
+    const char *p = digits;
+    for (; *p >= '0' && *p <= '9' && v <= LAST_VERSION; p++)
+        v = v * 10 + (unsigned)(*p - '0');
+    if (p == digits || *p || v > LAST_VERSION)
+        return false;
+    engine.system = (uint32_t)v;
+    return true;
+}
+
+int main(int argc, char **argv)
 {
     /* The piece of a line that a chunk ends with is put before the next chunk.
      * A piece longer than any frame is dropped: its line is malformed. */
@@ -560,6 +583,10 @@ int main(void)
     size_t piece = 0;
     bool overlong = false;
 
+    if (argc > 2 || (argc == 2 && !start_at(argv[1]))) {
+        fputs("usage: model [VERSION]   to start with, in decimal\n", stderr);
+        return 2;
+    }
     fill_pairs();
     for (;;) {
         ssize_t n = read(0, chunk, CHUNK);

@@ -8,6 +8,7 @@ use tables::lent;
 ghost use mathlib.Core.Path.{_≡_};
 ghost use mathlib.Core.List.{List};
 ghost use Prim.Native.Nat.{ℕ};
+ghost use Rattle.model.specs.Limits.{lastVersion};
 ghost use Rattle.model.specs.State.{tablesOf, directoryOf};
 ghost use Rattle.model.specs.Calls.{done, assign, withdraw};
 
@@ -19,7 +20,7 @@ pub fn assign(
     u: usize,
     r: usize,
 ) -> Answer
-    ensures { λ a. ⌜ ((readers forwards mandates : List ℕ) → done a (directoryOf (tablesOf (now (roles .exit)) readers forwards mandates) (now (versions .exit)) (now (version .exit))) ≡ assign (directoryOf (tablesOf (now (roles .entry)) readers forwards mandates) (now (versions .entry)) (now (version .entry))) u r) ⌝ }
+    ensures { λ a. ⌜ ((readers forwards mandates : List ℕ) → done a (directoryOf (tablesOf (now (roles .exit)) readers forwards mandates) (now (versions .exit)) (now (version .exit))) ≡ assign lastVersion (directoryOf (tablesOf (now (roles .entry)) readers forwards mandates) (now (versions .entry)) (now (version .entry))) u r) ⌝ }
 {
     if Engine::USERS <= u {
         return Answer::Refused(Refusal::AboveLimit);

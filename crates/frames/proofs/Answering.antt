@@ -17,7 +17,7 @@ use Rattle.model.specs.declared.calls.Verdict.{Verdict}
 use Rattle.model.specs.declared.calls.Verdict.the-variants.{Granted as Verdict·Granted, Refused as Verdict·Refused}
 use Rattle.model.specs.declared.calls.Answer.{Answer}
 use Rattle.model.specs.declared.calls.Answer.the-variants.{Version, Roles, Flow, Granted, Constraint as Answer·Constraint, Refused}
-use Rattle.model.specs.Limits.{flowCount}
+use Rattle.model.specs.Limits.{flowCount, lastVersion}
 use Rattle.model.specs.State.{allSessions, sessionAt}
 use Rattle.model.specs.Calls.{Done, done, returned, verdictOf, answerOf, read, change, ask, step, answer, verdict, after}
 use Rattle.model.proofs.Seen.{demand1}
@@ -92,7 +92,7 @@ shown-after e (Session p s (Show f)) = refl
 shown-after e (Read p u s f d) = refl
 shown-after e Unreadable = refl
 
-module _ (e e′ : Engine) (c : Call) (a : Answer) (h : done a e′ ≡ step e c) where
+module _ (e e′ : Engine) (c : Call) (a : Answer) (h : done a e′ ≡ step lastVersion e c) where
   pub told-after : e′ ≡ after e c
   unfolding after
   told-after = ap (λ (x : Done Engine). x .after) h

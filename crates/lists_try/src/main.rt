@@ -1,6 +1,7 @@
 // Runs stored lists of frames. Each argument names a file, which goes to a fresh engine in pieces
 // that cut lines anywhere; the answers go to standard output. The counts that come back are what is
 // tried here, so nothing rests on them.
+use frames::LONGEST;
 use frames::Line;
 use libc::STDOUT_FILENO;
 use model::Engine;
@@ -12,7 +13,7 @@ const PIECE: usize = 1000;
 
 // Room for one answer of any length and not for two such, so that a piece is not taken at once: what is
 // left of it is kept, and more is read behind it.
-const ROOM: usize = 200;
+const ROOM: usize = LONGEST + 45;
 
 // n, or the length where n is more.
 fn within(n: usize, bytes: &[u8]) -> usize

@@ -22,7 +22,7 @@ use Rattle.model.specs.declared.calls.Ask.the-variants.{Open, Conflictin
 use Rattle.model.specs.declared.calls.Call.{Call}
 use Rattle.model.specs.declared.calls.Call.the-variants.{Table, Session, Read, Unreadable}
 use Rattle.model.specs.declared.calls.Verdict.the-variants.{Granted}
-use Rattle.model.specs.Limits.{flowCount}
+use Rattle.model.specs.Limits.{flowCount, lastVersion}
 use Rattle.model.specs.State.{fresh, sessionAt, place, roleSet, rolesetAt, linkable}
 use Rattle.model.specs.Calls.{returned, flowsIn, links, verdict, after}
 use Rattle.model.specs.Ledger.{Ledger, Flow, start, flowOf, reads, readsTwoOf, holdsDenied, linked}
@@ -243,7 +243,7 @@ pub number-told : (e : Engine) (c : Call) → Kept e → returned (verdict e c) 
 unfolding refusal rows
 number-told e c k = number e c ∙ go c
   where
-    go : (x : Call) → firstMet (rows (seen e) (storedLinkable e) x) ≡ firstMet (rows (seen e) (linked (seen e)) x)
+    go : (x : Call) → firstMet (rows lastVersion (seen e) (storedLinkable e) x) ≡ firstMet (rows lastVersion (seen e) (linked (seen e)) x)
     go (Table a) = refl
     go (Session p s a) = refl
     go (Read p u s f d) = same-rows (seen e) (storedLinkable e) (linked (seen e)) p u s f d (stored-linked e p u s f k)

@@ -230,7 +230,7 @@ module _ (pairs : ℕ → ℕ → Bool) (a b c d : ℕ) where
 -- ---- a change of the tables
 
 -- the rest of the ledger
-entered-rest : (l : Ledger) (c : Change) → (entered l c .system ≡ l .system) × (entered l c .version ≡ l .version) × (entered l c .opened ≡ l .opened) × (entered l c .flows ≡ l .flows)
+pub entered-rest : (l : Ledger) (c : Change) → (entered l c .system ≡ l .system) × (entered l c .version ≡ l .version) × (entered l c .opened ≡ l .opened) × (entered l c .flows ≡ l .flows)
 unfolding entered
 entered-rest l (Assign u r) = (refl, refl, refl, refl)
 entered-rest l (Withdraw u r) = (refl, refl, refl, refl)
@@ -254,7 +254,7 @@ undue l (Forward x y) u r n h = (h, λ d. refl)
 undue l (Mandate x y) u r n h = (h, λ d. refl)
 
 module _ (l : Ledger) (c : Change) where
-  change-rises : l .system ≤ taken l (Table c) .system
+  pub change-rises : l .system ≤ taken l (Table c) .system
   unfolding taken renewed
   change-rises = go (some userCount (due l c))
     where
@@ -462,7 +462,7 @@ unfolding ledgerAfter
 ordered-after l [] o = o
 ordered-after l (c ∷ cs) o = ordered-after (ledgerStep l c) cs (ordered-step l c o)
 
-ordered-at : (cs : List Call) (k : ℕ) → Ordered (ledgerAt cs k)
+pub ordered-at : (cs : List Call) (k : ℕ) → Ordered (ledgerAt cs k)
 unfolding ledgerAt
 ordered-at cs k = ordered-after start (take k cs) ordered-start
 

@@ -14,5 +14,6 @@ pub mod Steps
 pub mod Kept
 pub mod Demands
 pub mod Mandates
+pub mod Versions
 pub mod Closing
 pub mod Products

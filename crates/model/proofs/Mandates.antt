@@ -25,6 +25,7 @@ use Rattle.model.specs.declared.calls.Call.{Call}
 use Rattle.model.specs.declared.calls.Call.the-variants.{Table, Session, Read, Unreadable}
 use Rattle.model.specs.declared.calls.Verdict.the-variants.{Granted, Refused}
 use Rattle.model.specs.declared.calls.Answer.the-variants.{Refused as Answer·Refused}
+use Rattle.model.specs.Limits.{lastVersion}
 use Rattle.model.specs.Calls.{numberOf, returned, verdictOf, Done, done, refuse, revoke, mandate, change, step, answer, verdict}
 use Rattle.model.specs.Ledger.{Ledger, start, linked, underMandate}
 use Rattle.model.specs.Refusals.{spent, rows, changeRows, firstMet, refusal, accepts, plus, minus, entered, renewed, withFlows, asked, taken, ledgerStep, ledgerAfter}
@@ -173,7 +174,7 @@ fifteenth false false false false h = absurd (omega arith)
 refused-revoke : (e : Engine) (r d : ℕ) → verdict e (Table (Revoke r d)) ≡ Refused Mandated → (r < roleCount) × (d < databaseCount) × (hasMandate (e .directory .tables) r d ≡ true)
 unfolding returned numberOf rows changeRows firstMet
 refused-revoke e r d h =
-    let w = fifteenth (leb roleCount r || leb databaseCount d) (not (seen e .mayRead r d)) (seen e .mandated r d) (spent (seen e) (Revoke r d)) (sym (number e (Table (Revoke r d))) ∙ ap returned h) in
+    let w = fifteenth (leb roleCount r || leb databaseCount d) (not (seen e .mayRead r d)) (seen e .mandated r d) (spent lastVersion (seen e) (Revoke r d)) (sym (number e (Table (Revoke r d))) ∙ ap returned h) in
     let b = or-neither (leb roleCount r) (leb databaseCount d) (w .0) in
     let l : r < roleCount = leb-false roleCount r (b .0) in
     (l, leb-false databaseCount d (b .1), mandates-seen e r d l ∙ w .1)

@@ -189,13 +189,13 @@ outside-seen e p s root m = some-cong roleCount _ _ (λ r l. ap (λ (b : Bool). 
 
 -- ---- a new version is due and there is none left
 
-last-assign : (e : Engine) (u r : ℕ) → u < userCount → eqb (e .directory .version) lastVersion ≡ spent (seen e) (Assign u r)
+last-assign : (last : ℕ) (e : Engine) (u r : ℕ) → u < userCount → eqb (e .directory .version) last ≡ spent last (seen e) (Assign u r)
 unfolding seen spent due
-last-assign e u r l = ap (λ (b : Bool). b && eqb (e .directory .version) lastVersion) (sym (some-at userCount (λ w. eqb w u) u l (eq-eqb u u refl)))
+last-assign last e u r l = ap (λ (b : Bool). b && eqb (e .directory .version) last) (sym (some-at userCount (λ w. eqb w u) u l (eq-eqb u u refl)))
 
-last-held : (e : Engine) (r : ℕ) → r < roleCount → noneLeft (e .directory) r ≡ (some userCount (λ w. seen e .holds w r) && eqb (e .directory .version) lastVersion)
+last-held : (last : ℕ) (e : Engine) (r : ℕ) → r < roleCount → noneLeft last (e .directory) r ≡ (some userCount (λ w. seen e .holds w r) && eqb (e .directory .version) last)
 unfolding noneLeft
-last-held e r l = ap (λ (b : Bool). b && eqb (e .directory .version) lastVersion) (held-seen e r l)
+last-held last e r l = ap (λ (b : Bool). b && eqb (e .directory .version) last) (held-seen e r l)
 
 -- ---- a read of a flow that is there
 
@@ -214,34 +214,34 @@ stored e p u s f = refl
 
 -- ---- every check against every row, group by group
 
-checked-change : (e : Engine) (c : Change) → Checked (e .directory) (changeRows (seen e) c) (told (changedDirectory (e .directory) c)) (change (e .directory) (e .sessions .counts) c)
+checked-change : (last : ℕ) (e : Engine) (c : Change) → Checked (e .directory) (changeRows last (seen e) c) (told (changedDirectory (e .directory) c)) (change last (e .directory) (e .sessions .counts) c)
 unfolding change assign withdraw permit revoke forward mandate changeRows changedDirectory changedTables givenBy numberOf verdictOf spent due seen
-checked-change e (Assign u r) =
+checked-change last e (Assign u r) =
     let k = changing (e .directory) in
     check-two k AboveLimit _ (leb userCount u) (leb roleCount r)
     (λ a b. check k AlreadyThere _ (holds-seen e u r (leb-false roleCount r b))
-    (λ h. check k VersionsSpent _ (last-assign e u r (leb-false userCount u a)) (λ j. all-passed (e .directory) _ _ refl)))
-checked-change e (Withdraw u r) =
+    (λ h. check k VersionsSpent _ (last-assign last e u r (leb-false userCount u a)) (λ j. all-passed (e .directory) _ _ refl)))
+checked-change last e (Withdraw u r) =
     let k = changing (e .directory) in
     check-two k AboveLimit _ (leb userCount u) (leb roleCount r)
     (λ a b. check k NotThere _ (ap not (holds-seen e u r (leb-false roleCount r b))) (λ j. all-passed (e .directory) _ _ refl))
-checked-change e (Permit r d) =
+checked-change last e (Permit r d) =
     let k = changing (e .directory) in
     check-two k AboveLimit _ (leb roleCount r) (leb databaseCount d)
     (λ a b. check k AlreadyThere _ (permits-seen e r d (leb-false roleCount r a))
-    (λ h. check k VersionsSpent _ (last-held e r (leb-false roleCount r a)) (λ j. all-passed (e .directory) _ _ refl)))
-checked-change e (Revoke r d) =
+    (λ h. check k VersionsSpent _ (last-held last e r (leb-false roleCount r a)) (λ j. all-passed (e .directory) _ _ refl)))
+checked-change last e (Revoke r d) =
     let k = changing (e .directory) in
     check-two k AboveLimit _ (leb roleCount r) (leb databaseCount d)
     (λ a b. check k NotThere _ (ap not (permits-seen e r d (leb-false roleCount r a)))
     (λ h. check k Mandated _ (mandates-seen e r d (leb-false roleCount r a))
-    (λ i. check k VersionsSpent _ (last-held e r (leb-false roleCount r a)) (λ j. all-passed (e .directory) _ _ refl))))
-checked-change e (Forward d x) =
+    (λ i. check k VersionsSpent _ (last-held last e r (leb-false roleCount r a)) (λ j. all-passed (e .directory) _ _ refl))))
+checked-change last e (Forward d x) =
     let k = changing (e .directory) in
     check-two k AboveLimit _ (leb databaseCount d) (leb databaseCount x)
     (λ a b. check k FlowAdded _ (any-seen e)
     (λ h. check k AlreadyThere _ (forwards-seen e d x (leb-false databaseCount x b)) (λ j. all-passed (e .directory) _ _ refl)))
-checked-change e (Mandate r d) =
+checked-change last e (Mandate r d) =
     let k = changing (e .directory) in
     check-two k AboveLimit _ (leb roleCount r) (leb databaseCount d)
     (λ a b. check k AlreadyThere _ (mandates-seen e r d (leb-false roleCount r a))
@@ -303,33 +303,33 @@ checked-read e p u s f d =
     (λ l. check k NoPermission _ (ap not (meets-seen e u d))
     (λ n. checked-late e (duty-seen e u d) (outdated e p u s f (leb-false (flowsIn (e .sessions) (sessionAt p s)) f j)) (stored e p u s f)))))))))
 
-pub checked : (e : Engine) (c : Call) → Checked e (rows (seen e) (storedLinkable e) c) (done (accepted e c) (changed e c)) (step e c)
+pub checked : (last : ℕ) (e : Engine) (c : Call) → Checked e (rows last (seen e) (storedLinkable e) c) (done (accepted e c) (changed e c)) (step last e c)
 unfolding rows accepted changed step numberOf
-checked e (Table c) = within (λ D. engineOf D (e .sessions)) (checked-change e c)
-checked e (Session p s a) = within (λ S. engineOf (e .directory) S) (checked-ask e p s a)
-checked e (Read p u s f d) = checked-read e p u s f d
-checked e Unreadable = stopped e Malformed [] _
+checked last e (Table c) = within (λ D. engineOf D (e .sessions)) (checked-change last e c)
+checked last e (Session p s a) = within (λ S. engineOf (e .directory) S) (checked-ask e p s a)
+checked last e (Read p u s f d) = checked-read e p u s f d
+checked last e Unreadable = stopped e Malformed [] _
 
 -- ---- what follows of a verdict
 
 -- the number returned is that of the first row met
-pub number : (e : Engine) (c : Call) → returned (verdict e c) ≡ firstMet (rows (seen e) (storedLinkable e) c)
+pub number : (e : Engine) (c : Call) → returned (verdict e c) ≡ firstMet (rows lastVersion (seen e) (storedLinkable e) c)
 unfolding verdict answer
-number e c = checked e c .number
+number e c = checked lastVersion e c .number
 
 -- a refused call leaves the engine as it was
 pub refused-after : (e : Engine) (c : Call) (why : Refusal) → verdict e c ≡ Refused why → after e c ≡ e
 unfolding verdict answer after
-refused-after e c why h = checked e c .refused why h
+refused-after e c why h = checked lastVersion e c .refused why h
 
 -- a granted one changes it and is answered
 pub granted-after : (e : Engine) (c : Call) → verdict e c ≡ Granted → after e c ≡ changed e c
 unfolding verdict answer after
-granted-after e c h = ap (λ (x : Done Engine). x .after) (checked e c .passed h)
+granted-after e c h = ap (λ (x : Done Engine). x .after) (checked lastVersion e c .passed h)
 
 pub granted-answer : (e : Engine) (c : Call) → verdict e c ≡ Granted → answer e c ≡ accepted e c
 unfolding verdict answer
-granted-answer e c h = ap (λ (x : Done Engine). x .answer) (checked e c .passed h)
+granted-answer e c h = ap (λ (x : Done Engine). x .answer) (checked lastVersion e c .passed h)
 
 -- so an engine is left as it was, or is changed by an accepted call
 pub after-cases : (P : Engine → Type 0) (e : Engine) (c : Call) → P e → (verdict e c ≡ Granted → P (changed e c)) → P (after e c)
@@ -342,21 +342,21 @@ after-cases P e c stay change = go (verdict e c) refl
 -- ---- calls other than reads
 
 -- what row 14 goes by is nothing to them
-pub other-rows : (l : Ledger) (p q : Product → ℕ → ℕ → ℕ → Bool) (c : Call) → isRead c ≡ false → rows l p c ≡ rows l q c
+pub other-rows : (last : ℕ) (l : Ledger) (p q : Product → ℕ → ℕ → ℕ → Bool) (c : Call) → isRead c ≡ false → rows last l p c ≡ rows last l q c
 unfolding isRead rows
-other-rows l p q (Table c) h = refl
-other-rows l p q (Session r s a) h = refl
-other-rows l p q (Read r u s f d) h = absurd (true≢false h)
-other-rows l p q Unreadable h = refl
+other-rows last l p q (Table c) h = refl
+other-rows last l p q (Session r s a) h = refl
+other-rows last l p q (Read r u s f d) h = absurd (true≢false h)
+other-rows last l p q Unreadable h = refl
 
 -- the engine accepts such a call exactly when the ledger that sees it does
 pub accepts-seen : (e : Engine) (c : Call) → isRead c ≡ false → eqb (returned (verdict e c)) 0 ≡ accepts (seen e) c
 unfolding accepts refusal
-accepts-seen e c h = ap (λ (n : ℕ). eqb n 0) (number e c ∙ ap firstMet (other-rows (seen e) (storedLinkable e) (linked (seen e)) c h))
+accepts-seen e c h = ap (λ (n : ℕ). eqb n 0) (number e c ∙ ap firstMet (other-rows lastVersion (seen e) (storedLinkable e) (linked (seen e)) c h))
 
 -- ---- what an accepted call says of its numbers
 
-no-row : (e : Engine) (c : Call) → verdict e c ≡ Granted → firstMet (rows (seen e) (storedLinkable e) c) ≡ 0
+no-row : (e : Engine) (c : Call) → verdict e c ≡ Granted → firstMet (rows lastVersion (seen e) (storedLinkable e) c) ≡ 0
 unfolding returned
 no-row e c h = sym (number e c) ∙ ap returned h
 

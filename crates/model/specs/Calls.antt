@@ -100,17 +100,19 @@ told D = done (Version (D .version)) D
 unfoldable pub toHolders : Directory → ℕ → Directory
 toHolders D r = cond (heldBy userCount (D .tables .roles) r) (newVersion D (λ u. holds (D .tables) u r)) D
 
+-- A change that can give a new version is told the last one: the engine's own is `lastVersion`, and that of the engine of before K4 was less.
+
 -- a new version is due to the holders of r, and there is none left
-unfoldable pub spent : Directory → ℕ → Bool
-spent D r = heldBy userCount (D .tables .roles) r && eqb (D .version) lastVersion
+unfoldable pub spent : ℕ → Directory → ℕ → Bool
+spent last D r = heldBy userCount (D .tables .roles) r && eqb (D .version) last
 
 -- 01: rows 2, 3, 9
-unfoldable pub assign : Directory → ℕ → ℕ → Done Directory
-assign D u r =
+unfoldable pub assign : ℕ → Directory → ℕ → ℕ → Done Directory
+assign last D u r =
     refuse (leb userCount u) AboveLimit D
     (refuse (leb roleCount r) AboveLimit D
     (refuse (holds (D .tables) u r) AlreadyThere D
-    (refuse (eqb (D .version) lastVersion) VersionsSpent D
+    (refuse (eqb (D .version) last) VersionsSpent D
     (told (newVersion (withTables D (assigned (D .tables) u r)) (λ w. eqb w u))))))
 
 -- 02: rows 2, 4
@@ -122,22 +124,22 @@ withdraw D u r =
     (told (withTables D (withdrawn (D .tables) u r)))))
 
 -- 03: rows 2, 3, 9
-unfoldable pub permit : Directory → ℕ → ℕ → Done Directory
-permit D r d =
+unfoldable pub permit : ℕ → Directory → ℕ → ℕ → Done Directory
+permit last D r d =
     refuse (leb roleCount r) AboveLimit D
     (refuse (leb databaseCount d) AboveLimit D
     (refuse (mayRead (D .tables) r d) AlreadyThere D
-    (refuse (spent D r) VersionsSpent D
+    (refuse (spent last D r) VersionsSpent D
     (told (toHolders (withTables D (permitted (D .tables) r d)) r)))))
 
 -- 04: rows 2, 4, 15, 9
-unfoldable pub revoke : Directory → ℕ → ℕ → Done Directory
-revoke D r d =
+unfoldable pub revoke : ℕ → Directory → ℕ → ℕ → Done Directory
+revoke last D r d =
     refuse (leb roleCount r) AboveLimit D
     (refuse (leb databaseCount d) AboveLimit D
     (refuse (not (mayRead (D .tables) r d)) NotThere D
     (refuse (hasMandate (D .tables) r d) Mandated D
-    (refuse (spent D r) VersionsSpent D
+    (refuse (spent last D r) VersionsSpent D
     (told (toHolders (withTables D (revoked (D .tables) r d)) r))))))
 
 -- 05: rows 2, 5, 3; `counts` tells how many flows each session has
@@ -247,13 +249,13 @@ answerOf (Refused why) = Answer·Refused why
 
 -- ---- any call, group by group; of a product's session its number is taken
 
-unfoldable pub change : Directory → List ℕ → Change → Done Directory
-change D counts (Assign u r) = assign D u r
-change D counts (Withdraw u r) = withdraw D u r
-change D counts (Permit r d) = permit D r d
-change D counts (Revoke r d) = revoke D r d
-change D counts (Forward d e) = forward D counts d e
-change D counts (Mandate r d) = mandate D r d
+unfoldable pub change : ℕ → Directory → List ℕ → Change → Done Directory
+change last D counts (Assign u r) = assign last D u r
+change last D counts (Withdraw u r) = withdraw D u r
+change last D counts (Permit r d) = permit last D r d
+change last D counts (Revoke r d) = revoke last D r d
+change last D counts (Forward d e) = forward D counts d e
+change last D counts (Mandate r d) = mandate D r d
 
 unfoldable pub ask : Directory → Sessions → ℕ → Ask → Done Sessions
 ask D S s Open = openSession (D .version) S s
@@ -261,21 +263,21 @@ ask D S s (Conflicting root) = done (conflicting (D .tables) S s root) S
 ask D S s (Add root chosen) = add D S s root chosen
 ask D S s (Show f) = done (show S s f) S
 
-unfoldable pub step : Engine → Call → Done Engine
-step e (Table c) = let x : Done Directory = change (e .directory) (e .sessions .counts) c in done (x .answer) (engineOf (x .after) (e .sessions))
-step e (Session p s a) = let x : Done Sessions = ask (e .directory) (e .sessions) (sessionAt p s) a in done (x .answer) (engineOf (e .directory) (x .after))
-step e (Read p u s f d) = done (answerOf (read (e .directory) (e .sessions) u (sessionAt p s) f d)) e
-step e Unreadable = done (Answer·Refused Malformed) e
+unfoldable pub step : ℕ → Engine → Call → Done Engine
+step last e (Table c) = let x : Done Directory = change last (e .directory) (e .sessions .counts) c in done (x .answer) (engineOf (x .after) (e .sessions))
+step last e (Session p s a) = let x : Done Sessions = ask (e .directory) (e .sessions) (sessionAt p s) a in done (x .answer) (engineOf (e .directory) (x .after))
+step last e (Read p u s f d) = done (answerOf (read (e .directory) (e .sessions) u (sessionAt p s) f d)) e
+step last e Unreadable = done (Answer·Refused Malformed) e
 
--- a call's answer, its verdict, and the engine after it
+-- a call's answer, its verdict, and the engine after it: versions go up to `lastVersion`
 unfoldable pub answer : Engine → Call → Answer
-answer e c = step e c .answer
+answer e c = step lastVersion e c .answer
 
 unfoldable pub verdict : Engine → Call → Verdict
 verdict e c = verdictOf (answer e c)
 
 unfoldable pub after : Engine → Call → Engine
-after e c = step e c .after
+after e c = step lastVersion e c .after
 
 -- ---- a constraint that is shown, by value
 

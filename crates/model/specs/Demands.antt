@@ -22,6 +22,7 @@ use Rattle.model.specs.declared.calls.Ask.the-variants.{Open, Conflictin
 use Rattle.model.specs.declared.calls.Call.{Call}
 use Rattle.model.specs.declared.calls.Call.the-variants.{Table, Session, Read, Unreadable}
 use Rattle.model.specs.declared.calls.Verdict.the-variants.{Granted, Refused}
+use Rattle.model.specs.Limits.{lastVersion}
 use Rattle.model.specs.State.{fresh, sessionAt, place}
 use Rattle.model.specs.Calls.{returned, links, answer, verdict, after, flowsIn}
 use Rattle.model.specs.Ledger.{Ledger, start, flowOf, reachOf, isConflicting, holdsDenied, linked, underMandate}
@@ -78,7 +79,7 @@ Told l m Unreadable a = ⊥
 
 pub record Demand1 (e : Engine) (c : Call) : Type 0 where
   -- what is returned is the number of the first row met, in the document's order, and 0 where none is
-  pub number : returned (verdict e c) ≡ firstMet (rows (seen e) (storedLinkable e) c)
+  pub number : returned (verdict e c) ≡ firstMet (rows lastVersion (seen e) (storedLinkable e) c)
   -- a refused call is answered by its refusal and leaves the engine as it was
   pub refused : (why : Refusal) → verdict e c ≡ Refused why → (answer e c ≡ Answer·Refused why) × (after e c ≡ e)
   -- every other call ends with the answer that the document gives it

@@ -8,4 +8,5 @@ pub mod Meaning
 pub mod Lasting
 pub mod Steps
 pub mod Mandates
+pub mod Versions
 pub mod Products

@@ -10,6 +10,6 @@ sessionCount = 16
 abbrev pub flowCount : ℕ
 flowCount = 8
 
--- "versions 0–65535"
+-- "Versions become 32 bits, .. the limit 4294967295" (K4)
 abbrev pub lastVersion : ℕ
-lastVersion = 65535
+lastVersion = 4294967295

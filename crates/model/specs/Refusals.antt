@@ -28,9 +28,9 @@ due l (Forward d e) w = false
 -- "A mandate gives no new version" (K3)
 due l (Mandate r d) w = false
 
--- 9: "a new version is due and the system version is 65535"
-unfoldable pub spent : Ledger → Change → Bool
-spent l c = some userCount (due l c) && eqb (l .system) lastVersion
+-- 9: "a new version is due and the system version is" the last one
+unfoldable pub spent : ℕ → Ledger → Change → Bool
+spent last l c = some userCount (due l c) && eqb (l .system) last
 
 -- 5: "some flow has been added in any session"; "Forwarding closes with the first flow of either product" (K1)
 unfoldable pub flowAdded : Ledger → Bool
@@ -50,16 +50,16 @@ newFlow l p s root chosen = record { root = root; reach = reachOf l root; versio
 -- ---- the table by calls: the numbers that a call can return, in the order of its checks, and when each is met
 
 -- 01 to 05, and 10
-unfoldable pub changeRows : Ledger → Change → List (ℕ × Bool)
-changeRows l (Assign u r) = (2, leb userCount u || leb roleCount r) ∷ (3, l .holds u r) ∷ (9, spent l (Assign u r)) ∷ []
-changeRows l (Withdraw u r) = (2, leb userCount u || leb roleCount r) ∷ (4, not (l .holds u r)) ∷ []
-changeRows l (Permit r d) = (2, leb roleCount r || leb databaseCount d) ∷ (3, l .mayRead r d) ∷ (9, spent l (Permit r d)) ∷ []
+unfoldable pub changeRows : ℕ → Ledger → Change → List (ℕ × Bool)
+changeRows last l (Assign u r) = (2, leb userCount u || leb roleCount r) ∷ (3, l .holds u r) ∷ (9, spent last l (Assign u r)) ∷ []
+changeRows last l (Withdraw u r) = (2, leb userCount u || leb roleCount r) ∷ (4, not (l .holds u r)) ∷ []
+changeRows last l (Permit r d) = (2, leb roleCount r || leb databaseCount d) ∷ (3, l .mayRead r d) ∷ (9, spent last l (Permit r d)) ∷ []
 -- 15 "when a permission with a mandate on it is to be revoked, checked after 4 and before 9" (K3)
-changeRows l (Revoke r d) = (2, leb roleCount r || leb databaseCount d) ∷ (4, not (l .mayRead r d)) ∷ (15, l .mandated r d) ∷ (9, spent l (Revoke r d)) ∷ []
+changeRows last l (Revoke r d) = (2, leb roleCount r || leb databaseCount d) ∷ (4, not (l .mayRead r d)) ∷ (15, l .mandated r d) ∷ (9, spent last l (Revoke r d)) ∷ []
 -- 3 "after 5"
-changeRows l (Forward d e) = (2, leb databaseCount d || leb databaseCount e) ∷ (5, flowAdded l) ∷ (3, l .forwards d e) ∷ []
+changeRows last l (Forward d e) = (2, leb databaseCount d || leb databaseCount e) ∷ (5, flowAdded l) ∷ (3, l .forwards d e) ∷ []
 -- "a pair without permission gives 4, a mandated one 3" (K3)
-changeRows l (Mandate r d) = (2, leb roleCount r || leb databaseCount d) ∷ (3, l .mandated r d) ∷ (4, not (l .mayRead r d)) ∷ []
+changeRows last l (Mandate r d) = (2, leb roleCount r || leb databaseCount d) ∷ (3, l .mandated r d) ∷ (4, not (l .mayRead r d)) ∷ []
 
 -- 06, 07, 08, 0a of the server, and 0b, 0c, 0d, 0f of the term bank; a chosen role above its limit would make a number above 64 bits
 unfoldable pub askRows : Ledger → Product → ℕ → Ask → List (ℕ × Bool)
@@ -91,11 +91,11 @@ readRows l links p u s f d =
     ∷ (14, not (underMandate l u d) && links p u s f)
     ∷ [])
 
-unfoldable pub rows : Ledger → (Product → ℕ → ℕ → ℕ → Bool) → Call → List (ℕ × Bool)
-rows l links (Table c) = changeRows l c
-rows l links (Session p s a) = askRows l p s a
-rows l links (Read p u s f d) = readRows l links p u s f d
-rows l links Unreadable = (1, true) ∷ []
+unfoldable pub rows : ℕ → Ledger → (Product → ℕ → ℕ → ℕ → Bool) → Call → List (ℕ × Bool)
+rows last l links (Table c) = changeRows last l c
+rows last l links (Session p s a) = askRows l p s a
+rows last l links (Read p u s f d) = readRows l links p u s f d
+rows last l links Unreadable = (1, true) ∷ []
 
 -- the number of the first row that is met, and 0 where none is
 unfoldable pub firstMet : List (ℕ × Bool) → ℕ
@@ -104,10 +104,10 @@ firstMet (row ∷ rows) = cond (row .1) (row .0) (firstMet rows)
 
 -- the first row that the call meets, by the ledger alone, and the first before 14
 unfoldable pub refusal : Ledger → Call → ℕ
-refusal l c = firstMet (rows l (linked l) c)
+refusal l c = firstMet (rows lastVersion l (linked l) c)
 
 unfoldable pub earlierRefusal : Ledger → Call → ℕ
-earlierRefusal l c = firstMet (rows l (λ p u s f. false) c)
+earlierRefusal l c = firstMet (rows lastVersion l (λ p u s f. false) c)
 
 -- "It accepts a call other than a read exactly when the call meets no row"
 unfoldable pub accepts : Ledger → Call → Bool

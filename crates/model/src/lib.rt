@@ -12,7 +12,7 @@ pub use calls::Verdict;
 use tables::Tables;
 
 // What versions are kept in.
-pub type Version = u16;
+pub type Version = u32;
 
 // Who holds and may read what, and since when.
 pub struct Directory {
@@ -83,5 +83,5 @@ impl Engine {
     // Places for role sets, in all constraints.
     pub const ROLE_SETS: usize = Self::PLACES * Self::FLOWS;
 
-    pub const LAST_VERSION: Version = 65535;
+    pub const LAST_VERSION: Version = 4294967295;
 }

@@ -11,6 +11,7 @@ ghost use mathlib.Core.List.{List};
 ghost use Prim.Native.Nat.{ℕ};
 ghost use Rattle.rows.specs.Rows.{there};
 ghost use Rattle.tables.specs.Tables.{userCount, heldBy};
+ghost use Rattle.model.specs.Limits.{lastVersion};
 ghost use Rattle.model.specs.State.{tablesOf, directoryOf, given};
 ghost use Rattle.model.specs.Calls.{done, spent, toHolders, permit, revoke};
 
@@ -37,7 +38,7 @@ fn renew<'a>(
 
 // Whether a new version is due to the holders of role r, and there is none left.
 fn spent(roles: &[u64; Engine::USERS], version: Version, r: usize) -> bool
-    ensures { λ b. ⌜ ((readers forwards mandates versions : List ℕ) → b ≡ spent (directoryOf (tablesOf (now (roles .entry)) readers forwards mandates) versions version) r) ⌝ }
+    ensures { λ b. ⌜ ((readers forwards mandates versions : List ℕ) → b ≡ spent lastVersion (directoryOf (tablesOf (now (roles .entry)) readers forwards mandates) versions version) r) ⌝ }
 {
     if version != Engine::LAST_VERSION {
         return false;
@@ -52,7 +53,7 @@ fn to_holders<'a>(
     version: &mut Version,
     r: usize,
 )
-    requires { ⌜ ((readers forwards mandates : List ℕ) → spent (directoryOf (tablesOf (now roles) readers forwards mandates) (now versions) (now version)) r ≡ false) ⌝ }
+    requires { ⌜ ((readers forwards mandates : List ℕ) → spent lastVersion (directoryOf (tablesOf (now roles) readers forwards mandates) (now versions) (now version)) r ≡ false) ⌝ }
     ensures { λ _. ⌜ ((readers forwards mandates : List ℕ) → directoryOf (tablesOf (now (roles .entry)) readers forwards mandates) (now (versions .exit)) (now (version .exit)) ≡ toHolders (directoryOf (tablesOf (now (roles .entry)) readers forwards mandates) (now (versions .entry)) (now (version .entry))) r) ⌝ }
 {
     if *version < Engine::LAST_VERSION {
@@ -72,7 +73,7 @@ pub fn permit<'a>(
     r: usize,
     d: usize,
 ) -> Answer
-    ensures { λ a. ⌜ ((forwards mandates : List ℕ) → done a (directoryOf (tablesOf (now (roles .entry)) (now (readers .exit)) forwards mandates) (now (versions .exit)) (now (version .exit))) ≡ permit (directoryOf (tablesOf (now (roles .entry)) (now (readers .entry)) forwards mandates) (now (versions .entry)) (now (version .entry))) r d) ⌝ }
+    ensures { λ a. ⌜ ((forwards mandates : List ℕ) → done a (directoryOf (tablesOf (now (roles .entry)) (now (readers .exit)) forwards mandates) (now (versions .exit)) (now (version .exit))) ≡ permit lastVersion (directoryOf (tablesOf (now (roles .entry)) (now (readers .entry)) forwards mandates) (now (versions .entry)) (now (version .entry))) r d) ⌝ }
 {
     if Engine::ROLES <= r {
         return Answer::Refused(Refusal::AboveLimit);
@@ -102,7 +103,7 @@ pub fn revoke<'a>(
     r: usize,
     d: usize,
 ) -> Answer
-    ensures { λ a. ⌜ ((forwards : List ℕ) → done a (directoryOf (tablesOf (now (roles .entry)) (now (readers .exit)) forwards (now (mandates .entry))) (now (versions .exit)) (now (version .exit))) ≡ revoke (directoryOf (tablesOf (now (roles .entry)) (now (readers .entry)) forwards (now (mandates .entry))) (now (versions .entry)) (now (version .entry))) r d) ⌝ }
+    ensures { λ a. ⌜ ((forwards : List ℕ) → done a (directoryOf (tablesOf (now (roles .entry)) (now (readers .exit)) forwards (now (mandates .entry))) (now (versions .exit)) (now (version .exit))) ≡ revoke lastVersion (directoryOf (tablesOf (now (roles .entry)) (now (readers .entry)) forwards (now (mandates .entry))) (now (versions .entry)) (now (version .entry))) r d) ⌝ }
 {
     if Engine::ROLES <= r {
         return Answer::Refused(Refusal::AboveLimit);

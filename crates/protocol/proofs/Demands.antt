@@ -1,6 +1,6 @@
 -- The demands for bytes and for pieces hold.
 -- Assumes nothing.
-use Prim.Native.Nat.{ℕ, zero, suc, _<_}
+use Prim.Native.Nat.{ℕ, zero, suc, _^_, _<_}
 use mathlib.Core.Path.{_≡_, refl, sym, ap, _∙_}
 use mathlib.Core.Bool.{Bool, true, false, cond}
 use mathlib.Core.List.{List, [], _∷_, _++_, append-nil, append-assoc}
@@ -16,10 +16,23 @@ use Rattle.model.specs.Calls.{after}
 use Rattle.model.specs.Demands.{engineAfter, callAt, engineAt}
 use Rattle.model.proofs.Seen.{demand1}
 use Rattle.model.proofs.Demands.{demand3}
-use Rattle.protocol.specs.Widths.{kept}
+use Rattle.protocol.specs.Widths.{versionDigits, kept}
+use Rattle.protocol.specs.Specification.{inDigits}
+use Rattle.protocol.specs.Digits.{number}
 use Rattle.protocol.specs.Run.{callsOf, reply, replies, run, Fed, wrote, fed, feedAt, keptOf}
-use Rattle.protocol.proofs.Laws.{more, run-more, more-end, more-capped, fed-more, fed-left, fed-shorter, no-feed-of, feedAt-le}
-use Rattle.protocol.specs.Demands.{ByteDemands, Piece, allBytes, fedAll, InPieces, Progress}
+use Rattle.protocol.proofs.Laws.{hex-length, more, run-more, more-end, more-capped, fed-more, fed-left, fed-shorter, no-feed-of, feedAt-le}
+use Rattle.protocol.proofs.Spelling.{hex-digits, number-hex}
+use Rattle.protocol.specs.Demands.{VersionsTold, ByteDemands, Piece, allBytes, fedAll, InPieces, Progress}
+
+-- a number that has so many digits is told by them
+told-by : (n v w : ℕ) → v < 16 ^ n → w < 16 ^ n → inDigits n v ≡ inDigits n w → v ≡ w
+told-by n v w a b h = sym (number-hex n v a) ∙ ap number (hex-digits n v ∙ h ∙ sym (hex-digits n w)) ∙ number-hex n w b
+
+pub versions-told : VersionsTold
+versions-told = record {
+  eight = λ v. sym (ap length (hex-digits versionDigits v)) ∙ hex-length versionDigits v;
+  apart = λ v w a b h. told-by versionDigits v w (omega (arith, a)) (omega (arith, b)) h;
+}
 
 -- one call's answer among those of a list
 answer-of : (e : Engine) (cs : List Call) (i : ℕ) → i < length cs

@@ -98,7 +98,7 @@ unfolding hex allDigits
 hex-all zero v = refl
 hex-all (suc n) v = all-more (hex n (v / 16)) (glyph (v % 16)) (hex-all n (v / 16)) (rw (digit-glyph (v % 16) (mod-lt v (omega arith))) (mod-lt v (omega arith)))
 
-number-hex : (n v : ℕ) → v < 16 ^ n → number (hex n v) ≡ v
+pub number-hex : (n v : ℕ) → v < 16 ^ n → number (hex n v) ≡ v
 unfolding hex number numberFrom
 number-hex zero v l = omega arith
 number-hex (suc n) v l =

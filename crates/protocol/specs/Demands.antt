@@ -5,9 +5,10 @@ use mathlib.Core.Path.{_≡_}
 use mathlib.Core.List.{List, [], _∷_, _++_}
 use lib.ListN.{length, take, drop}
 use Rattle.model.specs.declared.Engine.{Engine}
+use Rattle.model.specs.Limits.{lastVersion}
 use Rattle.model.specs.State.{fresh}
 use Rattle.model.specs.Demands.{Demand1, Demand3, callAt, engineAt}
-use Rattle.protocol.specs.Specification.{Output}
+use Rattle.protocol.specs.Specification.{version, Output}
 use Rattle.protocol.specs.Widths.{longest}
 use Rattle.protocol.specs.Run.{callsOf, reply, replies, run, Fed, wrote, fed, feedAt, keptOf, finish}
 
@@ -15,6 +16,11 @@ use Rattle.protocol.specs.Run.{callsOf, reply, replies, run, Fed, wrote,
 pub record Exact (input : List ℕ) : Type 0 where
   pub allowed : Output input (run input)
   pub only : (output : List ℕ) → Output input output → output ≡ run input
+
+-- a version is told by "eight digits in every answer" (K4), and no two versions by the same
+pub record VersionsTold : Type 0 where
+  pub eight : (v : ℕ) → length (version v) ≡ 8
+  pub apart : (v w : ℕ) → v ≤ lastVersion → w ≤ lastVersion → version v ≡ version w → v ≡ w
 
 -- each line of an input is the call that it reads as, and the demands hold of that list of calls
 pub record ByteDemands (input : List ℕ) : Type 0 where

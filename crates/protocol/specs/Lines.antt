@@ -96,7 +96,7 @@ unfoldable pub roleSets : ℕ → List ℕ → List ℕ
 roleSets zero sets = []
 roleSets (suc n) sets = roleSets n sets ++ hex setDigits (getD sets n 0)
 
--- what follows the first two digits: "for 01–06 the system version, four digits; for 07 the role set; for 08 flow number, count of databases in the reach
+-- what follows the first two digits: "for 01–06 the system version"; "for 07 the role set; for 08 flow number, count of databases in the reach
 -- in two digits each, version; for 09 nothing; for 0a version, deny set, then the role sets from flow 0 on"; "nothing but the number is returned" by a refusal.
 -- The constraint is that of the flow that an answer shows.
 unfoldable pub values : Answer → Constraint → List ℕ

@@ -31,7 +31,7 @@ unfoldable pub inDigits : ℕ → ℕ → List ℕ
 inDigits zero v = []
 inDigits (suc n) v = inDigits n (v / 16) ++ (getD digits (v % 16) 0 ∷ [])
 
--- "two digits each", and "the system version, four digits"
+-- "two digits each", and a version's "eight digits in every answer" (K4)
 abbrev pub two : ℕ → List ℕ
 two v = inDigits fieldDigits v
 
@@ -152,7 +152,7 @@ setsOf (suc n) sets = setsOf n sets ++ M (sets n)
 
 -- "and if accepted: .."
 unfoldable pub told : Book → Call → List ℕ
--- "for 01–06 the system version, four digits"; a mandate is "answered like kinds 01 to 06" (K3)
+-- "for 01–06 the system version"; a mandate is "answered like kinds 01 to 06" (K3)
 told b (Table c) = version (taken (b .ledger) (Table c) .system)
 told b (Session p s Open) = version (taken (b .ledger) (Session p s Open) .system)
 -- "for 07 the role set": the conflicting roles "with a flow of root dd counted in but not added"

@@ -8,9 +8,9 @@ use Rattle.model.specs.Limits.{flowCount}
 abbrev pub fieldDigits : ℕ
 fieldDigits = 2
 
--- "the system version, four digits"
+-- "Versions become 32 bits, eight digits in every answer" (K4)
 abbrev pub versionDigits : ℕ
-versionDigits = 4
+versionDigits = 8
 
 -- "M is sixteen digits, a role set": four roles a digit
 abbrev pub setDigits : ℕ

@@ -4,7 +4,7 @@
 use model::Engine;
 
 // How many digits a version and a role set have.
-pub const VERSION_DIGITS: usize = 4;
+pub const VERSION_DIGITS: usize = 8;
 
 pub const SET_DIGITS: usize = Engine::ROLES / 4;
 

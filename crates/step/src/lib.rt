@@ -12,6 +12,7 @@ pub use sessions::session_at;
 ghost use mathlib.Core.Path.{_≡_};
 ghost use mathlib.Core.List.{List};
 ghost use Prim.Native.Nat.{ℕ};
+ghost use Rattle.model.specs.Limits.{lastVersion};
 ghost use Rattle.model.specs.State.{tablesOf, directoryOf, sessionsOf, engineOf};
 ghost use Rattle.model.specs.Calls.{done, answerOf, change, ask, step};
 
@@ -36,7 +37,7 @@ fn change<'a>(
     counts: &[usize; Engine::ALL_SESSIONS],
     c: Change,
 ) -> Answer
-    ensures { λ a. ⌜ done a (directoryOf (tablesOf (now (roles .exit)) (now (readers .exit)) (now (forwards .exit)) (now (mandates .exit))) (now (versions .exit)) (now (version .exit))) ≡ change (directoryOf (tablesOf (now (roles .entry)) (now (readers .entry)) (now (forwards .entry)) (now (mandates .entry))) (now (versions .entry)) (now (version .entry))) (now (counts .entry)) c ⌝ }
+    ensures { λ a. ⌜ done a (directoryOf (tablesOf (now (roles .exit)) (now (readers .exit)) (now (forwards .exit)) (now (mandates .exit))) (now (versions .exit)) (now (version .exit))) ≡ change lastVersion (directoryOf (tablesOf (now (roles .entry)) (now (readers .entry)) (now (forwards .entry)) (now (mandates .entry))) (now (versions .entry)) (now (version .entry))) (now (counts .entry)) c ⌝ }
 {
     match c {
         Change::Assign { user, role } => assignment::assign(roles, versions, version, user, role),
@@ -131,7 +132,7 @@ pub fn step(
     rolesets: &mut [u64; Engine::ROLE_SETS],
     call: Call,
 ) -> Answer
-    ensures { λ a. ⌜ done a (engineOf (directoryOf (tablesOf (now (roles .exit)) (now (readers .exit)) (now (forwards .exit)) (now (mandates .exit))) (now (users .exit)) (now (version .exit))) (sessionsOf (now (opened .exit)) (now (counts .exit)) (now (roots .exit)) (now (reaches .exit)) (now (versions .exit)) (now (denies .exit)) (now (rolesets .exit)))) ≡ step (engineOf (directoryOf (tablesOf (now (roles .entry)) (now (readers .entry)) (now (forwards .entry)) (now (mandates .entry))) (now (users .entry)) (now (version .entry))) (sessionsOf (now (opened .entry)) (now (counts .entry)) (now (roots .entry)) (now (reaches .entry)) (now (versions .entry)) (now (denies .entry)) (now (rolesets .entry)))) call ⌝ }
+    ensures { λ a. ⌜ done a (engineOf (directoryOf (tablesOf (now (roles .exit)) (now (readers .exit)) (now (forwards .exit)) (now (mandates .exit))) (now (users .exit)) (now (version .exit))) (sessionsOf (now (opened .exit)) (now (counts .exit)) (now (roots .exit)) (now (reaches .exit)) (now (versions .exit)) (now (denies .exit)) (now (rolesets .exit)))) ≡ step lastVersion (engineOf (directoryOf (tablesOf (now (roles .entry)) (now (readers .entry)) (now (forwards .entry)) (now (mandates .entry))) (now (users .entry)) (now (version .entry))) (sessionsOf (now (opened .entry)) (now (counts .entry)) (now (roots .entry)) (now (reaches .entry)) (now (versions .entry)) (now (denies .entry)) (now (rolesets .entry)))) call ⌝ }
 {
     match call {
         Call::Table(c) => change(

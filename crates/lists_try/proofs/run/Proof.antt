@@ -1,15 +1,17 @@
 -- `lists_try::run` is safe and ends. The measure is the number of turns that are left; from turn to turn both buffers keep their length.
 -- Assumes nothing.
+use Prim.Native.Nat.{_+_}
 use mathlib.Core.Path.{_≡_}
 use lib.ListN.{length}
 use native.Mathlib.Omega.{arith}
 use borrow.Author.Needs.{needs}
+use Rattle.protocol.specs.Widths.{longest}
 use Rattle.lists_try.proofs.run.Statement.{statement}
 use Rattle.lists_try.proofs.run.Tie as tie
 
 abbrev Inv-loop : tie.InvT-loop
 Inv-loop fd roles₀ readers₀ forwards₀ mandates₀ users₀ version₀ opened₀ counts₀ roots₀ reaches₀ versions₀ denies₀ rolesets₀ input₀ output₀ len₀ turns₀ roles readers forwards mandates users version opened counts roots reaches versions denies rolesets input output len turns =
-    (1000 ≡ length input) × (200 ≡ length output)
+    (1000 ≡ length input) × (longest + 45 ≡ length output)
 
 abbrev μ-loop : tie.MeasureT-loop
 μ-loop fd roles₀ readers₀ forwards₀ mandates₀ users₀ version₀ opened₀ counts₀ roots₀ reaches₀ versions₀ denies₀ rolesets₀ input₀ output₀ len₀ turns₀ roles readers forwards mandates users version opened counts roots reaches versions denies rolesets input output len turns =

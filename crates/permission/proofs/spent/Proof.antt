@@ -14,7 +14,7 @@ use Rattle.permission.proofs.spent.Tie as tie
 
 module _ (roles readers forwards mandates versions : List ℕ) (version r : ℕ) where
   -- there is a version left
-  some-left : (version ≡ lastVersion → ⊥) → false ≡ spent (directoryOf (tablesOf roles readers forwards mandates) versions version) r
+  some-left : (version ≡ lastVersion → ⊥) → false ≡ spent lastVersion (directoryOf (tablesOf roles readers forwards mandates) versions version) r
   unfolding spent
   some-left h = rw (ne-eqb version lastVersion h) (go (heldBy userCount roles r))
     where
@@ -22,7 +22,7 @@ module _ (roles readers forwards mandates versions : List ℕ) (version r : ℕ)
       go true = refl
       go false = refl
 
-  none-left : (held : Bool) → version ≡ lastVersion → held ≡ heldBy userCount roles r → held ≡ spent (directoryOf (tablesOf roles readers forwards mandates) versions version) r
+  none-left : (held : Bool) → version ≡ lastVersion → held ≡ heldBy userCount roles r → held ≡ spent lastVersion (directoryOf (tablesOf roles readers forwards mandates) versions version) r
   unfolding spent
   none-left held h e = rw (eq-eqb version lastVersion h) (e ∙ and-all (heldBy userCount roles r))
 

@@ -31,7 +31,7 @@ module _ (roles readers forwards mandates versions : List ℕ) (version r : ℕ)
       let same = given-none (λ u. there roles u r) (version + 1) userCount versions (λ u l. ⊎-elim (λ t. absurd (true≢false (sym (some-at userCount (λ w. there roles w r) u l t) ∙ none))) (λ t. t) (true-or-false (there roles u r))) in
       rw (none, g, same)
 
-  last : version ≡ lastVersion → spent (directoryOf (tablesOf roles readers forwards mandates) versions version) r ≡ false
+  last : version ≡ lastVersion → spent lastVersion (directoryOf (tablesOf roles readers forwards mandates) versions version) r ≡ false
       → directoryOf (tablesOf roles readers forwards mandates) versions version ≡ toHolders (directoryOf (tablesOf roles readers forwards mandates) versions version) r
   unfolding spent toHolders
   last e h =

@@ -1,0 +1,3 @@
+pub mod Widening
+pub mod Carrying
+pub mod Moving
