@@ -428,8 +428,8 @@ static const unsigned char length[KINDS + 1] = {
     0, 6, 6, 6, 6, 6, 4, 6, 22, 10, 6, 4, 6, 22, 10, 6, 6
 };
 
-/* 01 to 06, 0b and 10: "the system version, four digits"; K4: "eight digits in
- * every answer" */
+/* 01 to 06, 0b and 10: "the system version"; K4: "eight digits in every
+ * answer" */
 static void answer_change(unsigned number)
 {
     begin(number);

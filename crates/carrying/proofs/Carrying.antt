@@ -23,6 +23,6 @@ as-before old p u s f d = back (oldRead old p u s f d)
 pub carried : (old : OldEngine) → Carried old
 unfolding carriedOver carriedDirectory carriedSessions
 carried old = record {
-  unchanged = record { users = refl; system = refl; flows = refl; tables = refl; opened = refl; counts = refl; roots = refl; reaches = refl; denies = refl; rolesets = refl };
+  unchanged = record { users = refl; system = refl; flows = refl; roles = refl; readers = refl; forwards = refl; mandates = refl; opened = refl; counts = refl; roots = refl; reaches = refl; denies = refl; rolesets = refl };
   as-before = as-before old;
 }

@@ -7,7 +7,6 @@ use mathlib.Core.Bool.{Bool, cond, not}
 use lib.Dec.{leb, ltb}
 use lib.ListN.{getD}
 use Rattle.sets.specs.Sets.{has, meeting}
-use Rattle.tables.specs.declared.Tables.{Tables}
 use Rattle.tables.specs.Tables.{userCount, roleCount, databaseCount}
 use Rattle.model.specs.declared.Directory.{Directory}
 use Rattle.model.specs.declared.Sessions.{Sessions}
@@ -18,7 +17,7 @@ use Rattle.model.specs.declared.calls.Call.the-variants.{Read}
 use Rattle.model.specs.declared.calls.Verdict.{Verdict}
 use Rattle.model.specs.declared.calls.Verdict.the-variants.{Granted}
 use Rattle.model.specs.Limits.{flowCount}
-use Rattle.model.specs.State.{allSessions, sessionAt, directoryOf, sessionsOf, engineOf, place, linkable, rolesetAt}
+use Rattle.model.specs.State.{allSessions, sessionAt, tablesOf, directoryOf, sessionsOf, engineOf, place, linkable, rolesetAt}
 use Rattle.model.specs.Calls.{bar, verdict}
 use Rattle.carrying.specs.declared.OldDirectory.{OldDirectory}
 use Rattle.carrying.specs.declared.OldSessions.{OldSessions}
@@ -27,7 +26,7 @@ use Rattle.carrying.specs.declared.OldEngine.{OldEngine}
 -- ---- carrying over
 
 unfoldable pub carriedDirectory : OldDirectory → Directory
-carriedDirectory D = directoryOf (D .tables) (D .versions) (D .version)
+carriedDirectory D = directoryOf (tablesOf (D .roles) (D .readers) (D .forwards) (D .mandates)) (D .versions) (D .version)
 
 unfoldable pub carriedSessions : OldSessions → Sessions
 carriedSessions S = sessionsOf (S .opened) (S .counts) (S .roots) (S .reaches) (S .versions) (S .denies) (S .rolesets)
@@ -40,7 +39,10 @@ pub record Unchanged (old : OldEngine) (e : Engine) : Type 0 where
   pub users : e .directory .versions ≡ old .directory .versions
   pub system : e .directory .version ≡ old .directory .version
   pub flows : e .sessions .versions ≡ old .sessions .versions
-  pub tables : e .directory .tables ≡ old .directory .tables
+  pub roles : e .directory .tables .roles ≡ old .directory .roles
+  pub readers : e .directory .tables .readers ≡ old .directory .readers
+  pub forwards : e .directory .tables .forwards ≡ old .directory .forwards
+  pub mandates : e .directory .tables .mandates ≡ old .directory .mandates
   pub opened : e .sessions .opened ≡ old .sessions .opened
   pub counts : e .sessions .counts ≡ old .sessions .counts
   pub roots : e .sessions .roots ≡ old .sessions .roots
@@ -56,7 +58,7 @@ oldRead old p u s f d =
     let D : OldDirectory = old .directory in
     let S : OldSessions = old .sessions in
     let n : ℕ = sessionAt p s in
-    let held : ℕ = getD (D .tables .roles) u 0 in
+    let held : ℕ = getD (D .roles) u 0 in
     bar (leb userCount u) AboveLimit
     (bar (leb databaseCount d) AboveLimit
     (bar (leb allSessions n) AboveLimit
@@ -64,8 +66,8 @@ oldRead old p u s f d =
     (bar (not (has (S .opened) n)) NotOpen
     (bar (leb (getD (S .counts) n 0) f) NoSuchFlow
     (bar (not (has (getD (S .reaches) (place n f) 0) d)) OutOfReach
-    (bar (not (meeting roleCount held (getD (D .tables .readers) d 0))) NoPermission
-    (cond (meeting roleCount held (getD (D .tables .mandates) d 0)) Granted
+    (bar (not (meeting roleCount held (getD (D .readers) d 0))) NoPermission
+    (cond (meeting roleCount held (getD (D .mandates) d 0)) Granted
     (bar (ltb (getD (S .versions) (place n f) 0) (getD (D .versions) u 0)) Changed
     (bar (linkable roleCount flowCount held (getD (S .denies) (place n f) 0) (rolesetAt (S .rolesets) n f)) Linkable Granted))))))))))
 

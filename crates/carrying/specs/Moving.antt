@@ -34,7 +34,7 @@ oldLast = 65535
 -- the old struct with an engine's numbers
 unfoldable pub oldOf : Engine → OldEngine
 oldOf e = record {
-  directory = record { tables = e .directory .tables; versions = e .directory .versions; version = e .directory .version };
+  directory = record { roles = e .directory .tables .roles; readers = e .directory .tables .readers; forwards = e .directory .tables .forwards; mandates = e .directory .tables .mandates; versions = e .directory .versions; version = e .directory .version };
   sessions = record { opened = e .sessions .opened; counts = e .sessions .counts; roots = e .sessions .roots; reaches = e .sessions .reaches; versions = e .sessions .versions; denies = e .sessions .denies; rolesets = e .sessions .rolesets };
 }
 

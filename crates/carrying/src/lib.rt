@@ -12,14 +12,17 @@ ghost use Rattle.carrying.specs.Carrying.{carriedDirectory, carriedSessi
 // What versions were kept in.
 pub type OldVersion = u16;
 
-// Who held and might read what, and since when.
+// Who held and might read what, and since when. The tables have the rows that they have today.
 pub struct OldDirectory {
-    pub tables: Tables,
+    pub roles: [u64; Engine::USERS],
+    pub readers: [u64; Engine::DATABASES],
+    pub forwards: [u64; Engine::DATABASES],
+    pub mandates: [u64; Engine::DATABASES],
     pub versions: [OldVersion; Engine::USERS],
     pub version: OldVersion,
 }
 
-// What was asked to be kept apart, in the places that it has in `Sessions`.
+// What was asked to be kept apart, in the places that it has today.
 pub struct OldSessions {
     pub opened: u64,
     pub counts: [usize; Engine::ALL_SESSIONS],
@@ -42,6 +45,7 @@ fn widen(v: OldVersion) -> Version
     v as Version
 }
 
+// The same numbers, each in a version of today.
 fn widened(old: &[OldVersion], wide: &mut [Version])
     requires { ⌜ length (now old) ≡ length (now wide) ⌝ }
     ensures { λ _. ⌜ now (wide .exit) ≡ now (old .entry) ⌝ }
@@ -59,7 +63,12 @@ fn directory_of(old: OldDirectory) -> Directory
 {
     let mut users = [0 as Version; Engine::USERS];
     widened(&old.versions, &mut users);
-    let tables = old.tables;
+    let tables = Tables {
+        roles: old.roles,
+        readers: old.readers,
+        forwards: old.forwards,
+        mandates: old.mandates,
+    };
     Directory {
         tables,
         versions: users,

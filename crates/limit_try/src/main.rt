@@ -111,8 +111,16 @@ fn old() -> OldEngine {
     versions[1] = 65535;
     versions[2] = 255;
     versions[254] = 256;
+    let t = tables_by_value::assign(tables, 254, 0);
+    let roles = t.roles;
+    let readers = t.readers;
+    let forwards = t.forwards;
+    let mandates = t.mandates;
     let directory = OldDirectory {
-        tables: tables_by_value::assign(tables, 254, 0),
+        roles,
+        readers,
+        forwards,
+        mandates,
         versions,
         version: 65535,
     };

@@ -6,7 +6,7 @@ use Rattle.carrying.proofs.directory_of.Tie as tie
 
 returns : tie.Need-returns
 unfolding carriedDirectory
-returns c = rw (c .widen .ensures, c .before .before .before .widened .ensures)
+returns c = rw (c .widen .ensures, c .before .before .before .before .before .before .widened .ensures)
 
 pub directory-of-spec : {M : Type 1} → statement M
 directory-of-spec =
