@@ -106,27 +106,29 @@ fn last(e: Engine) {
 // Users 1, 2 and 254 hold role 0, which may read database 0. The server's session 0 has a flow of the
 // last version, the term bank's session 15 one of version 255.
 fn old() -> OldEngine {
-    let tables = tables_by_value::assign(tables(), 2, 0);
+    let t = tables_by_value::assign(tables(), 2, 0);
+    OldEngine {
+        directory: old_directory(tables_by_value::assign(t, 254, 0)),
+        sessions: old_sessions(),
+    }
+}
+
+fn old_directory(t: Tables) -> OldDirectory {
     let mut versions = [0 as OldVersion; Engine::USERS];
     versions[1] = 65535;
     versions[2] = 255;
     versions[254] = 256;
-    let t = tables_by_value::assign(tables, 254, 0);
     let roles = t.roles;
     let readers = t.readers;
     let forwards = t.forwards;
     let mandates = t.mandates;
-    let directory = OldDirectory {
+    OldDirectory {
         roles,
         readers,
         forwards,
         mandates,
         versions,
         version: 65535,
-    };
-    OldEngine {
-        directory,
-        sessions: old_sessions(),
     }
 }
 
