@@ -32,8 +32,8 @@ use protocol::LONGEST;
 use tables::Tables;
 
 fn main() {
-    below(directory_at(Engine::LAST_VERSION - 1));
-    last(directory_at(Engine::LAST_VERSION));
+    below(engine_at(Engine::LAST_VERSION - 1));
+    last(engine_at(Engine::LAST_VERSION));
     moved(carrying::carry_over(old()));
     versions();
 }
@@ -47,7 +47,7 @@ fn tables() -> Tables {
 }
 
 // An engine with these tables at a system version; user 1 has it too.
-fn directory_at(version: Version) -> Engine {
+fn engine_at(version: Version) -> Engine {
     let mut versions = [0 as Version; Engine::USERS];
     versions[1] = version;
     let directory = Directory {
@@ -99,11 +99,11 @@ fn last(e: Engine) {
     shown(show(added, Product::Server, 0, 0));
     answered(read(added, Product::Server, 1, 0, 0, 0));
     let bank = said(open_session(added, Product::TermBank, 15));
-    let full = said(add_flow(bank, Product::TermBank, 15, 0, 0));
-    answered(read(full, Product::TermBank, 1, 15, 0, 0));
+    let both = said(add_flow(bank, Product::TermBank, 15, 0, 0));
+    answered(read(both, Product::TermBank, 1, 15, 0, 0));
 }
 
-// Users 1, 2 and 254 hold role 0, which may read database 0. The server's session 0 has a flow of the
+// Users 1, 2 and 254 hold role 0, which may read database 0. The server's session 0 has a flow of the old
 // last version, the term bank's session 15 one of version 255.
 fn old() -> OldEngine {
     let t = tables_by_value::assign(tables(), 2, 0);
@@ -195,7 +195,7 @@ fn versions() {
 
 // User 1 reads a flow of one version with another of its own.
 fn reading(flow: Version, user: Version) {
-    let mut e = directory_at(user);
+    let mut e = engine_at(user);
     let directory = e.directory;
     let opened = open_session(e, Product::Server, 0);
     e = opened.engine;
