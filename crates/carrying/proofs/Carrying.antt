@@ -8,7 +8,7 @@ use Rattle.model.specs.declared.calls.Verdict.{Verdict}
 use Rattle.model.specs.declared.calls.Verdict.the-variants.{Granted, Refused}
 use Rattle.model.specs.Calls.{verdictOf, links, byDuty, read, answerOf, step, answer, verdict}
 use Rattle.carrying.specs.declared.OldEngine.{OldEngine}
-use Rattle.carrying.specs.Carrying.{carriedDirectory, carriedSessions, carriedOver, Unchanged, oldRead, Carried}
+use Rattle.carrying.specs.Carrying.{carriedDirectory, carriedSessions, carriedOver, oldRead, Carried}
 
 -- the verdict on a read as an answer, and back
 back : (v : Verdict) → verdictOf (answerOf v) ≡ v

@@ -9,10 +9,10 @@ use native.Mathlib.Decide.{decLt}
 use native.Mathlib.Nat.{zero-sub, sub-zero, suc-sub-suc}
 use native.Mathlib.Omega.{arith}
 use lib.Dec.{ltb, eqb}
-use lib.ListN.{length, getD, take, length-append}
-use borrow.Author.Tests.{eqb-true, eqb-false, eq-eqb, ne-eqb, lt-ltb, le-ltb}
+use lib.ListN.{length, take, length-append}
+use borrow.Author.Tests.{eqb-true, eqb-false, ne-eqb, lt-ltb, le-ltb}
 use Rattle.sets.specs.Sets.{some}
-use Rattle.tables.specs.Tables.{userCount, roleCount, databaseCount}
+use Rattle.tables.specs.Tables.{userCount}
 use Rattle.model.specs.declared.Engine.{Engine}
 use Rattle.model.specs.declared.calls.Refusal.{Refusal}
 use Rattle.model.specs.declared.calls.Refusal.the-variants.{Malformed, AboveLimit, AlreadyThere, NotThere, FlowAdded, NotOpen, SessionFull, NotConflicting, VersionsSpent, NoSuchFlow, OutOfReach, NoPermission, Changed, Linkable, Mandated}
@@ -25,14 +25,16 @@ use Rattle.model.specs.declared.calls.Verdict.{Verdict}
 use Rattle.model.specs.declared.calls.Verdict.the-variants.{Granted, Refused}
 use Rattle.model.specs.Limits.{lastVersion}
 use Rattle.model.specs.State.{fresh}
-use Rattle.model.specs.Calls.{numberOf, returned, verdictOf, Done, done, step, answer, verdict, after}
+use Rattle.model.specs.Calls.{numberOf, returned, verdictOf, Done, step, answer, verdict, after}
 use Rattle.model.specs.Ledger.{Ledger, start, linked}
 use Rattle.model.specs.Refusals.{due, spent, changeRows, askRows, checkRows, readRows, rows, firstMet, refusal, accepts, taken, ledgerStep, ledgerAfter}
-use Rattle.model.specs.Demands.{seen, storedLinkable, engineAfter, engineAt, ledgerAt, callAt, isRead}
+use Rattle.model.specs.Demands.{seen, engineAfter, engineAt, ledgerAt, callAt, isRead}
 use Rattle.model.proofs.Invariants.{Sized}
-use Rattle.model.proofs.Chains.{Checked, not-met}
-use Rattle.model.proofs.SeenRows.{checked, other-rows}
+use Rattle.model.proofs.Chains.{Checked}
+use Rattle.model.proofs.SeenRows.{checked}
 use Rattle.model.proofs.Seen.{sized-fresh, sized-after, seen-fresh, seen-after, refused-number}
+use Rattle.model.proofs.Ledgers.{ledger-both}
+use Rattle.model.proofs.Lasting.{engine-both}
 use Rattle.model.proofs.Demands.{demand3, numbered}
 use Rattle.model.proofs.Versions.{lacks, lacking, few-taken}
 use Rattle.carrying.specs.declared.OldEngine.{OldEngine}
@@ -223,16 +225,6 @@ take-both zero [] ys = refl
 take-both zero (x ∷ xs) ys = rw (zero-sub (suc (length xs)))
 take-both (suc i) [] ys = rw (sub-zero (suc i))
 take-both (suc i) (x ∷ xs) ys = rw (suc-sub-suc i (length xs)) (ap (λ (zs : List _). x ∷ zs) (take-both i xs ys))
-
-engine-both : (e : Engine) (xs ys : List Call) → engineAfter e (xs ++ ys) ≡ engineAfter (engineAfter e xs) ys
-unfolding engineAfter
-engine-both e [] ys = refl
-engine-both e (x ∷ xs) ys = engine-both (after e x) xs ys
-
-ledger-both : (l : Ledger) (xs ys : List Call) → ledgerAfter l (xs ++ ys) ≡ ledgerAfter (ledgerAfter l xs) ys
-unfolding ledgerAfter
-ledger-both l [] ys = refl
-ledger-both l (x ∷ xs) ys = ledger-both (ledgerStep l x) xs ys
 
 call-first : (i : ℕ) (xs ys : List Call) → i < length xs → callAt (xs ++ ys) i ≡ callAt xs i
 unfolding callAt

@@ -3,7 +3,7 @@
 -- Assumes nothing.
 use Prim.Native.Nat.{ℕ}
 use mathlib.Core.Path.{_≡_}
-use mathlib.Core.Bool.{Bool, cond, not}
+use mathlib.Core.Bool.{cond, not}
 use lib.Dec.{leb, ltb}
 use lib.ListN.{getD}
 use Rattle.sets.specs.Sets.{has, meeting}

@@ -72,14 +72,14 @@ still-after e c s f z l = after-cases (λ new. Still e new s f) e c (still-here 
 
 -- ---- a list of calls
 
-one-more : (e : Engine) (cs : List Call) (c : Call) → engineAfter e (cs ++ (c ∷ [])) ≡ after (engineAfter e cs) c
+pub engine-both : (e : Engine) (xs ys : List Call) → engineAfter e (xs ++ ys) ≡ engineAfter (engineAfter e xs) ys
 unfolding engineAfter
-one-more e [] c = refl
-one-more e (b ∷ cs) c = one-more (after e b) cs c
+engine-both e [] ys = refl
+engine-both e (x ∷ xs) ys = engine-both (after e x) xs ys
 
 pub engine-step : (cs : List Call) (k : ℕ) → k < length cs → engineAt cs (suc k) ≡ after (engineAt cs k) (callAt cs k)
-unfolding engineAt callAt
-engine-step cs k h = rw (take-suc cs k Unreadable) (one-more fresh (take k cs) (getD cs k Unreadable))
+unfolding engineAt callAt engineAfter
+engine-step cs k h = rw (take-suc cs k Unreadable) (engine-both fresh (take k cs) (getD cs k Unreadable ∷ []))
 
 -- past its end nothing more happens
 take-past : (cs : List Call) (k : ℕ) → length cs ≤ k → take (suc k) cs ≡ take k cs

@@ -448,14 +448,14 @@ along P i (suc j) l h f = go (decLt j i) (along P i j)
     go (yes m) r = subst P (omega arith) h
     go (no m) r = f j (omega arith) (omega arith) (r (omega arith) h (λ k a b. f k a (omega arith)))
 
-after-one-more : (l : Ledger) (cs : List Call) (c : Call) → ledgerAfter l (cs ++ (c ∷ [])) ≡ ledgerStep (ledgerAfter l cs) c
+pub ledger-both : (l : Ledger) (xs ys : List Call) → ledgerAfter l (xs ++ ys) ≡ ledgerAfter (ledgerAfter l xs) ys
 unfolding ledgerAfter
-after-one-more l [] c = refl
-after-one-more l (b ∷ cs) c = after-one-more (ledgerStep l b) cs c
+ledger-both l [] ys = refl
+ledger-both l (x ∷ xs) ys = ledger-both (ledgerStep l x) xs ys
 
 pub ledger-step : (cs : List Call) (k : ℕ) → k < length cs → ledgerAt cs (suc k) ≡ ledgerStep (ledgerAt cs k) (callAt cs k)
-unfolding ledgerAt callAt
-ledger-step cs k h = rw (take-suc cs k Unreadable) (after-one-more start (take k cs) (getD cs k Unreadable))
+unfolding ledgerAt callAt ledgerAfter
+ledger-step cs k h = rw (take-suc cs k Unreadable) (ledger-both start (take k cs) (getD cs k Unreadable ∷ []))
 
 ordered-after : (l : Ledger) (cs : List Call) → Ordered l → Ordered (ledgerAfter l cs)
 unfolding ledgerAfter
