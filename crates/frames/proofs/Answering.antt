@@ -1,12 +1,14 @@
 -- A call that is carried out: its answer, the engine after it, and the line, whose parts are read in the arrays after the call.
 -- Assumes nothing.
-use Prim.Native.Nat.{ℕ, _+_, _≤_}
+use Prim.Native.Nat.{ℕ, _+_, _≤_, _<_}
 use mathlib.Core.Path.{_≡_, refl, ap}
-use mathlib.Core.Bool.{Bool, true, _&&_}
+use mathlib.Core.Bool.{Bool, true, false, _&&_}
 use mathlib.Core.List.{List, [], _∷_, _++_}
+use native.Mathlib.Nat.{zero-add}
 use native.Mathlib.Omega.{arith}
 use lib.ListN.{length}
-use borrow.Author.Tests.{lt-ltb, le-leb}
+use lib.Dec.{leb}
+use borrow.Author.Tests.{lt-ltb, le-leb, lt-leb}
 use Rattle.model.specs.declared.Sessions.{Sessions}
 use Rattle.model.specs.declared.Engine.{Engine}
 use Rattle.model.specs.declared.calls.Ask.the-variants.{Open, Conflicting, Add, Show}
@@ -19,17 +21,19 @@ use Rattle.model.specs.declared.calls.Answer.{Answer}
 use Rattle.model.specs.declared.calls.Answer.the-variants.{Version, Roles, Flow, Granted, Constraint as Answer·Constraint, Refused}
 use Rattle.model.specs.Limits.{flowCount, lastVersion}
 use Rattle.model.specs.State.{allSessions, sessionAt}
-use Rattle.model.specs.Calls.{Done, done, returned, verdictOf, answerOf, read, change, ask, step, answer, verdict, after}
+use Rattle.model.specs.Calls.{done, returned, verdictOf, answerOf, read, change, ask, step, answer, verdict, after}
 use Rattle.model.proofs.Seen.{demand1}
+use Rattle.step.proofs.Answers.{told-after, told-answer}
 use Rattle.protocol.specs.Widths.{fieldDigits, longest}
 use Rattle.protocol.specs.Digits.{hex}
-use Rattle.protocol.specs.Lines.{lineFeed, values, lineOf}
+use Rattle.protocol.specs.Lines.{lineFeed, values, callOf, lineOf}
 use Rattle.protocol.specs.Run.{shownIn, reply}
 use Rattle.protocol.proofs.Laws.{Placed, placed, reply-length}
 use Rattle.answers.specs.Answers.{hasPlace}
 use Rattle.output.specs.Output.{roomAt}
 use Rattle.encoding.specs.Written.{Wrote, Puts}
 use Rattle.encoding.proofs.Writing.{wrote-same, puts-wrote}
+use Rattle.frames.specs.Stream.{Answers}
 
 -- ---- a line that is written
 
@@ -93,16 +97,22 @@ shown-after e (Read p u s f d) = refl
 shown-after e Unreadable = refl
 
 module _ (e e′ : Engine) (c : Call) (a : Answer) (h : done a e′ ≡ step lastVersion e c) where
-  pub told-after : e′ ≡ after e c
-  unfolding after
-  told-after = ap (λ (x : Done Engine). x .after) h
-
-  told-answer : a ≡ answer e c
-  unfolding answer
-  told-answer = ap (λ (x : Done Engine). x .answer) h
-
   pub told-wrote : {old new : List ℕ} {at next : ℕ} → at + longest ≤ length old
       → Puts (roomAt old at && hasPlace a) old new at next (lineOf a (shownIn (e′ .sessions) a)) → Wrote old new at next (reply e c)
   unfolding reply
   told-wrote {old} {new} {at} l =
-      put-reply e c l (rw (has-room old at l, told-answer) (has-place (answer e c) (placed e c))) (rw (told-after, told-answer) (ap (lineOf (answer e c)) (shown-after e c)))
+      let t = told-answer e e′ c a h in
+      put-reply e c l (rw (has-room old at l, t) (has-place (answer e c) (placed e c))) (rw (told-after e e′ c a h, t) (ap (lineOf (answer e c)) (shown-after e c)))
+
+-- ---- one frame, at the start of a buffer
+
+pub no-room : (e : Engine) (line old : List ℕ) → length old < longest → Answers line e e old old 0
+no-room e line old l =
+    let f : leb longest (length old) ≡ false = lt-leb longest (length old) l in
+    record { written = rw f refl; output = rw f refl; engine = rw f refl }
+
+pub in-room : (e e′ : Engine) (line old new : List ℕ) (c : Call) (r : ℕ) → longest ≤ length old → c ≡ callOf line → e′ ≡ after e c → Wrote old new 0 r (reply e c)
+    → Answers line e e′ old new r
+in-room e e′ line old new c r l q a w =
+    let t : leb longest (length old) ≡ true = le-leb longest (length old) l in
+    record { written = rw (t, ← q) (rw zero-add at (w .place)); output = rw (t, ← q) (rw zero-add at (w .holds)); engine = rw (t, ← q) a }

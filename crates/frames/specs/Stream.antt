@@ -9,10 +9,19 @@ use lib.ListN.{length, drop}
 use Rattle.model.specs.declared.Engine.{Engine}
 use Rattle.model.specs.State.{fresh}
 use Rattle.protocol.specs.Widths.{longest}
-use Rattle.protocol.specs.Run.{run, Fed, fed, feedAt}
+use Rattle.model.specs.Calls.{after as Calls·after}
+use Rattle.protocol.specs.Lines.{callOf}
+use Rattle.protocol.specs.Run.{run, reply, Fed, fed, feedAt}
 use Rattle.frames.specs.declared.stream.Fed.{Fed as Given}
 use Rattle.output.specs.declared.Line.{Line}
 use Rattle.output.specs.declared.Line.the-variants.{Written, NoRoom}
+
+-- one frame, a line without its line feed: where the longest answer has room, its answer line stands at the start of the buffer, the number given back is the
+-- line's length, and the engine is the one after its call; else nothing is done
+pub record Answers (line : List ℕ) (before after : Engine) (old new : List ℕ) (r : ℕ) : Type 0 where
+  pub written : r ≡ cond (leb longest (length old)) (length (reply before (callOf line))) 0
+  pub output : new ≡ cond (leb longest (length old)) (reply before (callOf line) ++ drop (length (reply before (callOf line))) old) old
+  pub engine : after ≡ cond (leb longest (length old)) (Calls·after before (callOf line)) before
 
 -- what is given back of a piece of input is what the machine does: how much was taken, what was written at the start of the buffer, the rest of it as it was,
 -- and the engine after it; where the longest answer has room, a piece with a whole line in it is not given back whole

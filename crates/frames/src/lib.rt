@@ -12,6 +12,7 @@ pub use protocol::LONGEST;
 pub use protocol::SET_DIGITS;
 pub use protocol::VERSION_DIGITS;
 pub use stream::Fed;
+pub use stream::answer_frame;
 pub use stream::feed;
 pub use stream::finish;
 pub use whole::run;

@@ -14,7 +14,7 @@ ghost use Rattle.protocol.specs.Widths.{longest};
 ghost use Rattle.protocol.specs.Run.{reply, fed};
 ghost use Rattle.output.specs.Output.{ending, endAnswer, endWritten};
 ghost use Rattle.encoding.specs.Written.{Wrote};
-ghost use Rattle.frames.specs.Stream.{Feeds};
+ghost use Rattle.frames.specs.Stream.{Answers, Feeds};
 
 // How many bytes of the input were taken and of the output written.
 pub struct Fed {
@@ -89,6 +89,51 @@ fn answer_call(
         call,
     );
     encoding::write_answer(answer, versions, denies, rolesets, out, at)
+}
+
+// One frame, a line without its line feed, is carried out, and its answer line written at the start of
+// `out`. Where there is less room than the longest answer needs, nothing is done.
+pub fn answer_frame(
+    roles: &mut [u64; Engine::USERS],
+    readers: &mut [u64; Engine::DATABASES],
+    forwards: &mut [u64; Engine::DATABASES],
+    mandates: &mut [u64; Engine::DATABASES],
+    users: &mut [Version; Engine::USERS],
+    version: &mut Version,
+    opened: &mut u64,
+    counts: &mut [usize; Engine::ALL_SESSIONS],
+    roots: &mut [usize; Engine::PLACES],
+    reaches: &mut [u64; Engine::PLACES],
+    versions: &mut [Version; Engine::PLACES],
+    denies: &mut [u64; Engine::PLACES],
+    rolesets: &mut [u64; Engine::ROLE_SETS],
+    line: &[u8],
+    out: &mut [u8],
+) -> usize
+    ensures { λ r. ⌜ Answers (now (line .entry)) (engineOf (directoryOf (tablesOf (now (roles .entry)) (now (readers .entry)) (now (forwards .entry)) (now (mandates .entry))) (now (users .entry)) (now (version .entry))) (sessionsOf (now (opened .entry)) (now (counts .entry)) (now (roots .entry)) (now (reaches .entry)) (now (versions .entry)) (now (denies .entry)) (now (rolesets .entry)))) (engineOf (directoryOf (tablesOf (now (roles .exit)) (now (readers .exit)) (now (forwards .exit)) (now (mandates .exit))) (now (users .exit)) (now (version .exit))) (sessionsOf (now (opened .exit)) (now (counts .exit)) (now (roots .exit)) (now (reaches .exit)) (now (versions .exit)) (now (denies .exit)) (now (rolesets .exit)))) (now (out .entry)) (now (out .exit)) r ⌝ }
+{
+    if out.len() < LONGEST {
+        return 0;
+    }
+    let call = decoding::read_call(line);
+    answer_call(
+        roles,
+        readers,
+        forwards,
+        mandates,
+        users,
+        version,
+        opened,
+        counts,
+        roots,
+        reaches,
+        versions,
+        denies,
+        rolesets,
+        call,
+        out,
+        0,
+    )
 }
 
 // Takes a piece of input line by line, as far as it has whole lines and there is room for their

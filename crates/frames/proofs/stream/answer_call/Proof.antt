@@ -1,7 +1,8 @@
 -- A read by its number, any other call by its step; then the line, whose parts are read in the arrays after the call.
 use borrow.Author.Needs.{needs}
 use Rattle.encoding.proofs.Writing.{wrote-length}
-use Rattle.frames.proofs.Answering.{read-wrote, read-after, told-after, told-wrote}
+use Rattle.step.proofs.Answers.{told-after}
+use Rattle.frames.proofs.Answering.{read-wrote, read-after, told-wrote}
 use Rattle.frames.proofs.stream.answer_call.Statement.{statement}
 use Rattle.frames.proofs.stream.answer_call.Tie as tie
 
