@@ -1,17 +1,19 @@
 -- The frame that an input begins with, and the next line of an input, by any two tables; and what a caller gets who lends the tables of the digits.
 -- Assumes nothing.
-use Prim.Native.Nat.{ℕ, _+_, _*_, _/_, _<_}
+use Prim.Native.Nat.{ℕ, _+_, _*_, _/_, _≤_, _<_}
 use mathlib.Core.Path.{_≡_}
 use mathlib.Core.Bool.{Bool, true, false, cond, _&&_}
-use mathlib.Core.List.{List}
+use mathlib.Core.List.{List, [], _∷_, _++_}
 use lib.Dec.{leb, ltb}
 use lib.ListN.{length, take, drop}
 use Rattle.model.specs.declared.calls.Call.{Call}
 use Rattle.model.specs.declared.calls.Call.the-variants.{Table, Session, Read, Unreadable}
-use Rattle.protocol.specs.Lines.{restDigits, calledBy, callOf}
+use Rattle.protocol.specs.Widths.{kept}
+use Rattle.protocol.specs.Lines.{lineFeed, restDigits, calledBy, callOf}
 use Rattle.protocol.specs.Run.{feedAt}
 use Rattle.decoding.specs.declared.read.Frame.{Frame}
 use Rattle.decoding.specs.declared.lines.NextLine.{NextLine}
+use Rattle.decoding.specs.declared.lines.Framed.{Framed}
 use Rattle.decoding.specs.Fields.{pairAt, pairsNumber, endedBy, setPairs}
 
 unfoldable pub isFrame : Call → Bool
@@ -46,3 +48,12 @@ pub record LineAt (s : List ℕ) (at : ℕ) (r : NextLine) : Type 0 where
   pub place : r .end ≡ at + feedAt (drop at s)
   pub ended : r .ended ≡ ltb (r .end) (length s)
   pub call : r .end < length s → r .call ≡ callOf (take (feedAt (drop at s)) (drop at s))
+
+-- a line as it is taken for a frame: the line, or the empty one where it is longer than every frame or has a line feed in it. Neither is a frame then
+unfoldable pub framing : List ℕ → List ℕ
+framing line = cond (leb kept (length line)) [] (cond (ltb (feedAt line) (length line)) [] line)
+
+-- with its line feed it stands at the start of an array
+pub record IsFramed (line : List ℕ) (r : Framed) : Type 0 where
+  pub bytes : take (r .len) (r .bytes) ≡ framing line ++ (lineFeed ∷ [])
+  pub within : r .len ≤ kept

@@ -5,7 +5,9 @@ mod read;
 
 pub use digits::highs;
 pub use digits::lows;
+pub use lines::Framed;
 pub use lines::NextLine;
+pub use lines::as_frame;
 pub use lines::next_line;
 pub use pieces::find_feed;
 pub use pieces::keep;

@@ -6,11 +6,11 @@ use model::Call;
 use protocol::KEPT;
 ghost use mathlib.Core.Path.{_≡_};
 ghost use mathlib.Core.List.{[], _∷_, _++_};
-ghost use Prim.Native.Nat.{_+_, _<_};
+ghost use Prim.Native.Nat.{_+_, _≤_, _<_};
 ghost use lib.ListN.{length, take};
 ghost use Rattle.protocol.specs.Widths.{kept};
 ghost use Rattle.protocol.specs.Lines.{lineFeed};
-ghost use Rattle.decoding.specs.Frames.{nextBy};
+ghost use Rattle.decoding.specs.Frames.{framing, IsFramed, nextBy};
 
 // A line's call, the place of its line feed, or the input's end where it has none, and whether it has
 // one. Of a frame that is a constant: so nothing stands between the match on its kind and a caller's
@@ -68,4 +68,35 @@ pub(crate) fn with_feed(line: &[u8]) -> [u8; KEPT]
     }
     bytes[i] = 10;
     bytes
+}
+
+// A line with its line feed, at the start of an array, and how long it is.
+pub struct Framed {
+    pub bytes: [u8; KEPT],
+    pub len: usize,
+}
+
+// How many bytes of a line are taken for a frame: all, or none where it is longer than every frame or has
+// a line feed in it.
+fn frame_length(line: &[u8]) -> usize
+    ensures { λ r. ⌜ (take r (now (line .entry)) ≡ framing (now (line .entry))) × (r < kept) × (r ≤ length (now (line .entry))) ⌝ }
+{
+    let n = line.len();
+    if KEPT <= n {
+        return 0;
+    }
+    if pieces::find_feed(line, 0) < n {
+        return 0;
+    }
+    n
+}
+
+// A line that came without its line feed, as the next line of an input. What can be no frame becomes the
+// empty line, which is none either.
+pub fn as_frame(line: &[u8]) -> Framed
+    ensures { λ r. ⌜ IsFramed (now (line .entry)) r ⌝ }
+{
+    let n = frame_length(line);
+    let bytes = with_feed(&line[..n]);
+    Framed { bytes, len: n + 1 }
 }

@@ -1,14 +1,12 @@
 -- A call that is carried out: its answer, the engine after it, and the line, whose parts are read in the arrays after the call.
 -- Assumes nothing.
-use Prim.Native.Nat.{ℕ, _+_, _≤_, _<_}
+use Prim.Native.Nat.{ℕ, _+_, _≤_}
 use mathlib.Core.Path.{_≡_, refl, ap}
-use mathlib.Core.Bool.{Bool, true, false, _&&_}
+use mathlib.Core.Bool.{Bool, true, _&&_}
 use mathlib.Core.List.{List, [], _∷_, _++_}
-use native.Mathlib.Nat.{zero-add}
 use native.Mathlib.Omega.{arith}
 use lib.ListN.{length}
-use lib.Dec.{leb}
-use borrow.Author.Tests.{lt-ltb, le-leb, lt-leb}
+use borrow.Author.Tests.{lt-ltb, le-leb}
 use Rattle.model.specs.declared.Sessions.{Sessions}
 use Rattle.model.specs.declared.Engine.{Engine}
 use Rattle.model.specs.declared.calls.Ask.the-variants.{Open, Conflicting, Add, Show}
@@ -26,14 +24,13 @@ use Rattle.model.proofs.Seen.{demand1}
 use Rattle.step.proofs.Answers.{told-after, told-answer}
 use Rattle.protocol.specs.Widths.{fieldDigits, longest}
 use Rattle.protocol.specs.Digits.{hex}
-use Rattle.protocol.specs.Lines.{lineFeed, values, callOf, lineOf}
+use Rattle.protocol.specs.Lines.{lineFeed, values, lineOf}
 use Rattle.protocol.specs.Run.{shownIn, reply}
 use Rattle.protocol.proofs.Laws.{Placed, placed, reply-length}
 use Rattle.answers.specs.Answers.{hasPlace}
 use Rattle.output.specs.Output.{roomAt}
 use Rattle.encoding.specs.Written.{Wrote, Puts}
 use Rattle.encoding.proofs.Writing.{wrote-same, puts-wrote}
-use Rattle.frames.specs.Stream.{Answers}
 
 -- ---- a line that is written
 
@@ -103,16 +100,3 @@ module _ (e e′ : Engine) (c : Call) (a : Answer) (h : done a e′ ≡ step las
   told-wrote {old} {new} {at} l =
       let t = told-answer e e′ c a h in
       put-reply e c l (rw (has-room old at l, t) (has-place (answer e c) (placed e c))) (rw (told-after e e′ c a h, t) (ap (lineOf (answer e c)) (shown-after e c)))
-
--- ---- one frame, at the start of a buffer
-
-pub no-room : (e : Engine) (line old : List ℕ) → length old < longest → Answers line e e old old 0
-no-room e line old l =
-    let f : leb longest (length old) ≡ false = lt-leb longest (length old) l in
-    record { written = rw f refl; output = rw f refl; engine = rw f refl }
-
-pub in-room : (e e′ : Engine) (line old new : List ℕ) (c : Call) (r : ℕ) → longest ≤ length old → c ≡ callOf line → e′ ≡ after e c → Wrote old new 0 r (reply e c)
-    → Answers line e e′ old new r
-in-room e e′ line old new c r l q a w =
-    let t : leb longest (length old) ≡ true = le-leb longest (length old) l in
-    record { written = rw (t, ← q) (rw zero-add at (w .place)); output = rw (t, ← q) (rw zero-add at (w .holds)); engine = rw (t, ← q) a }

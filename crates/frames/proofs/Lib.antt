@@ -1,3 +1,4 @@
 mod Answering
 mod Feeding
 mod Endings
+mod Framed

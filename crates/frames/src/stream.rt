@@ -91,51 +91,6 @@ fn answer_call(
     encoding::write_answer(answer, versions, denies, rolesets, out, at)
 }
 
-// One frame, a line without its line feed, is carried out, and its answer line written at the start of
-// `out`. Where there is less room than the longest answer needs, nothing is done.
-pub fn answer_frame(
-    roles: &mut [u64; Engine::USERS],
-    readers: &mut [u64; Engine::DATABASES],
-    forwards: &mut [u64; Engine::DATABASES],
-    mandates: &mut [u64; Engine::DATABASES],
-    users: &mut [Version; Engine::USERS],
-    version: &mut Version,
-    opened: &mut u64,
-    counts: &mut [usize; Engine::ALL_SESSIONS],
-    roots: &mut [usize; Engine::PLACES],
-    reaches: &mut [u64; Engine::PLACES],
-    versions: &mut [Version; Engine::PLACES],
-    denies: &mut [u64; Engine::PLACES],
-    rolesets: &mut [u64; Engine::ROLE_SETS],
-    line: &[u8],
-    out: &mut [u8],
-) -> usize
-    ensures { λ r. ⌜ Answers (now (line .entry)) (engineOf (directoryOf (tablesOf (now (roles .entry)) (now (readers .entry)) (now (forwards .entry)) (now (mandates .entry))) (now (users .entry)) (now (version .entry))) (sessionsOf (now (opened .entry)) (now (counts .entry)) (now (roots .entry)) (now (reaches .entry)) (now (versions .entry)) (now (denies .entry)) (now (rolesets .entry)))) (engineOf (directoryOf (tablesOf (now (roles .exit)) (now (readers .exit)) (now (forwards .exit)) (now (mandates .exit))) (now (users .exit)) (now (version .exit))) (sessionsOf (now (opened .exit)) (now (counts .exit)) (now (roots .exit)) (now (reaches .exit)) (now (versions .exit)) (now (denies .exit)) (now (rolesets .exit)))) (now (out .entry)) (now (out .exit)) r ⌝ }
-{
-    if out.len() < LONGEST {
-        return 0;
-    }
-    let call = decoding::read_call(line);
-    answer_call(
-        roles,
-        readers,
-        forwards,
-        mandates,
-        users,
-        version,
-        opened,
-        counts,
-        roots,
-        reaches,
-        versions,
-        denies,
-        rolesets,
-        call,
-        out,
-        0,
-    )
-}
-
 // Takes a piece of input line by line, as far as it has whole lines and there is room for their
 // answers, and writes those at the start of `out`. It stops at a line where less than the longest
 // answer is left of `out`; where that much is there from the start, a piece with a whole line in it
@@ -197,6 +152,51 @@ pub fn feed(
         consumed: at,
         written,
     }
+}
+
+// One frame, a line without its line feed, is carried out, and its answer line written at the start of
+// `out`. Where there is less room than the longest answer needs, nothing is done. It goes by `feed`, so
+// that there is one place from which calls are answered, and the compiler makes one loop of it.
+pub fn answer_frame(
+    roles: &mut [u64; Engine::USERS],
+    readers: &mut [u64; Engine::DATABASES],
+    forwards: &mut [u64; Engine::DATABASES],
+    mandates: &mut [u64; Engine::DATABASES],
+    users: &mut [Version; Engine::USERS],
+    version: &mut Version,
+    opened: &mut u64,
+    counts: &mut [usize; Engine::ALL_SESSIONS],
+    roots: &mut [usize; Engine::PLACES],
+    reaches: &mut [u64; Engine::PLACES],
+    versions: &mut [Version; Engine::PLACES],
+    denies: &mut [u64; Engine::PLACES],
+    rolesets: &mut [u64; Engine::ROLE_SETS],
+    line: &[u8],
+    out: &mut [u8],
+) -> usize
+    ensures { λ r. ⌜ Answers (now (line .entry)) (engineOf (directoryOf (tablesOf (now (roles .entry)) (now (readers .entry)) (now (forwards .entry)) (now (mandates .entry))) (now (users .entry)) (now (version .entry))) (sessionsOf (now (opened .entry)) (now (counts .entry)) (now (roots .entry)) (now (reaches .entry)) (now (versions .entry)) (now (denies .entry)) (now (rolesets .entry)))) (engineOf (directoryOf (tablesOf (now (roles .exit)) (now (readers .exit)) (now (forwards .exit)) (now (mandates .exit))) (now (users .exit)) (now (version .exit))) (sessionsOf (now (opened .exit)) (now (counts .exit)) (now (roots .exit)) (now (reaches .exit)) (now (versions .exit)) (now (denies .exit)) (now (rolesets .exit)))) (now (out .entry)) (now (out .exit)) r ⌝ }
+{
+    let framed = decoding::as_frame(line);
+    let bytes = framed.bytes;
+    let n = framed.len;
+    let fed = feed(
+        roles,
+        readers,
+        forwards,
+        mandates,
+        users,
+        version,
+        opened,
+        counts,
+        roots,
+        reaches,
+        versions,
+        denies,
+        rolesets,
+        &bytes[..n],
+        out,
+    );
+    fed.written
 }
 
 // At the end of input, where this many bytes are left of a line: its answer, at the start of `out`.

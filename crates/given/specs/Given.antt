@@ -18,7 +18,7 @@ use Rattle.model.specs.declared.calls.Answer.{Answer}
 use Rattle.model.specs.declared.calls.Answer.the-variants.{Version, Roles, Flow, Granted, Constraint as Answer·Constraint, Refused}
 use Rattle.model.specs.Limits.{sessionCount}
 use Rattle.model.specs.State.{productCount, sessionAt}
-use Rattle.model.specs.Calls.{returned, answer, verdict, after, constraintAt}
+use Rattle.model.specs.Calls.{returned, read, answer, verdict, after, constraintAt}
 
 -- ---- the session that a caller's numbers name
 
@@ -107,3 +107,8 @@ pub record Shows (e : Engine) (p : Product) (s f n : ℕ) (old new : Constraint)
   pub number : n ≡ returned (verdict e (Session p s (Show f)))
   pub constraint : new ≡ shownOr old (verdict e (Session p s (Show f))) (constraintAt (e .sessions) (sessionAt p s) f)
   pub engine : e ≡ after e (Session p s (Show f))
+
+-- a read of the session that has number s among those of both products: by the session's number, and by the session and its product
+pub record Judges (e : Engine) (u s f d n : ℕ) : Type 0 where
+  pub number : n ≡ returned (read (e .directory) (e .sessions) u s f d)
+  pub named : (p : Product) (session : ℕ) → s ≡ sessionAt p session → n ≡ returned (verdict e (Read p u session f d))

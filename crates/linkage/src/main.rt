@@ -1,119 +1,68 @@
-// The frame program: frames on standard input, answers on standard output. The engine's arrays are
-// main's own and are lent for each piece of input. The counts that come back are cut to the lengths of
-// the buffers, so that safety rests on no contract of another crate.
+// The frame program: frames on standard input, answers on standard output, and on standard error what
+// could not be read or written. The engine's arrays are main's own and are lent for each piece of input.
+// The counts that come back from `frames` are cut to the lengths of the buffers, so that safety rests on
+// none of its contracts.
 use frames::Line;
 use libc::STDIN_FILENO;
-use libc::STDOUT_FILENO;
 use model::Engine;
 use model::Version;
-ghost use Prim.Native.Nat.{_<_};
-ghost use Rattle.io.specs.Counts.{Counts};
+ghost use Prim.Native.Nat.{_≤_, _<_};
 
 // How many bytes are read at once, and how many are written.
 const BUFFER: usize = 65536;
 
-// The place that the output has come to, and whether it is still open.
-struct Put {
-    from: usize,
+// How many bytes there is room for in the sentence about a failure: more than any has.
+const SENTENCE: usize = 128;
+
+// How many lines are answered, and whether the output is still open.
+struct Shown {
+    lines: u64,
     is_open: bool,
 }
 
-// What of the input is to be fed, from a place to the end of what is filled; whether the output is still
-// open; and how many turns are left.
+// What of the input is to be fed, from a place to the end of what is filled; how many lines are answered;
+// whether both streams are still open; and how many turns are left.
 struct Held {
     from: usize,
     filled: usize,
+    lines: u64,
     is_open: bool,
     turns: u64,
 }
 
-// n, or the length where n is more.
-fn within(n: usize, bytes: &[u8]) -> usize
-    ensures { λ r. ⌜ Counts r (now (bytes .entry)) ⌝ }
-{
-    if n < bytes.len() { n } else { bytes.len() }
+// The sum, or the last number where that is less.
+fn sum(a: u64, b: u64) -> u64 {
+    if u64::MAX - a < b { u64::MAX } else { a + b }
 }
 
-// Whether the call that failed just now is to be made again.
-fn is_passing() -> bool {
-    let error = os::errno();
-    error == libc::EINTR || error == libc::EAGAIN
-}
-
-// One read, taken up again where it is interrupted. It gives 0 at the end of the input, and where
-// the input can't be read any more.
-fn read_some(bytes: &mut [u8]) -> usize
-    ensures { λ r. ⌜ Counts r (now (bytes .exit)) ⌝ }
-{
-    let mut turns = u64::MAX;
-    while 0 < turns {
-        let got = libc::read(STDIN_FILENO, bytes);
-        if 0 <= got {
-            return io::count(got, bytes);
-        }
-        if !is_passing() {
-            break;
-        }
-        turns -= 1;
+// Writes the first n bytes, and counts the lines that are written whole. Where not all are written it
+// says so.
+fn show(bytes: &[u8], n: usize, lines: u64) -> Shown {
+    let end = streams::within(n, bytes);
+    let answers = &bytes[..end];
+    let written = streams::write_all(answers);
+    let lines = sum(lines, streams::lines(&answers[..written]) as u64);
+    if written < end {
+        let mut text = [0u8; SENTENCE];
+        streams::say_after(
+            &mut text,
+            b"linkage: answers after line ",
+            lines,
+            b" were not written",
+        );
     }
-    0
-}
-
-// Reads behind the first n bytes of a buffer, and gives the place behind what it has read.
-fn read_behind(input: &mut [u8], n: usize) -> usize
-    ensures { λ r. ⌜ Counts r (now (input .exit)) ⌝ }
-{
-    let from = within(n, input);
-    let end = from + read_some(&mut input[from..]);
-    within(end, input)
-}
-
-// One write, from a place on. An interrupted one stays at its place; one that takes nothing counts
-// as closed, since it would be made for ever.
-fn write_some(bytes: &[u8], place: usize) -> Put {
-    let from = within(place, bytes);
-    let rest = &bytes[from..];
-    let put = libc::write(STDOUT_FILENO, rest);
-    if put < 0 {
-        let is_open = is_passing();
-        return Put { from, is_open };
+    Shown {
+        lines,
+        is_open: end <= written,
     }
-    Put {
-        from: from + io::count(put, rest),
-        is_open: 0 < put,
-    }
-}
-
-// Writes all bytes, in as many writes as it takes, or answers false where the output is closed.
-fn write_all(bytes: &[u8]) -> bool {
-    let mut from = 0usize;
-    let mut turns = u64::MAX;
-    while 0 < turns {
-        if bytes.len() <= from {
-            return true;
-        }
-        let put = write_some(bytes, from);
-        if !put.is_open {
-            return false;
-        }
-        from = put.from;
-        turns -= 1;
-    }
-    false
-}
-
-// Writes the first n bytes.
-fn show(bytes: &[u8], n: usize) -> bool {
-    let end = within(n, bytes);
-    write_all(&bytes[..end])
 }
 
 // What is filled of a buffer, from a place on.
 fn part<'a>(input: &'a [u8; BUFFER], place: usize, filled: usize) -> &'a [u8] {
     let bytes: &[u8] = input;
-    let end = within(filled, bytes);
+    let end = streams::within(filled, bytes);
     let whole = &bytes[..end];
-    let from = within(place, whole);
+    let from = streams::within(place, whole);
     &whole[from..]
 }
 
@@ -136,17 +85,42 @@ fn is_under_way(before: usize, from: usize, filled: usize) -> bool {
     from < filled
 }
 
+// What is to be fed after more is read behind the first bytes of the buffer. Where the input can't be
+// read it says so: the input has not ended then, and its unfinished line stays unanswered.
+fn more(input: &mut [u8; BUFFER], len: usize, lines: u64, turns: u64) -> Held
+    ensures { λ r. ⌜ r .turns ≤ turns ⌝ }
+{
+    let read = streams::read_behind(STDIN_FILENO, input, len);
+    if read.failed {
+        let mut text = [0u8; SENTENCE];
+        streams::say_after(
+            &mut text,
+            b"linkage: lines after line ",
+            lines,
+            b" were not read",
+        );
+    }
+    Held {
+        from: 0,
+        filled: read.end,
+        lines,
+        is_open: !read.failed,
+        turns: if read.end <= len { 0 } else { turns },
+    }
+}
+
 // What is to be fed after this many bytes were taken: the rest, where lines may be left in it; else more
 // is read behind what is left. Nothing where the output is closed.
-fn next(input: &mut [u8; BUFFER], held: Held, consumed: usize, is_open: bool) -> Held
+fn next(input: &mut [u8; BUFFER], held: Held, consumed: usize, shown: Shown) -> Held
     requires { ⌜ 0 < held .turns ⌝ }
     ensures { λ r. ⌜ r .turns < held .turns ⌝ }
 {
     let from = behind(held.from, consumed);
-    if !is_open {
+    if !shown.is_open {
         return Held {
             from,
             filled: held.filled,
+            lines: shown.lines,
             is_open: false,
             turns: 0,
         };
@@ -156,18 +130,13 @@ fn next(input: &mut [u8; BUFFER], held: Held, consumed: usize, is_open: bool) ->
         return Held {
             from,
             filled: held.filled,
+            lines: shown.lines,
             is_open: true,
             turns,
         };
     }
     let len = frames::keep(input, from, held.filled);
-    let filled = read_behind(input, len);
-    Held {
-        from: 0,
-        filled,
-        is_open: true,
-        turns: if filled <= len { 0 } else { turns },
-    }
+    more(input, len, shown.lines, turns)
 }
 
 // Writes the answer to a last line that has no line feed.
@@ -177,7 +146,7 @@ fn end(held: Held, output: &mut [u8; BUFFER]) {
     }
     let line = frames::finish(held.filled, output);
     if let Line::Written(n) = line {
-        show(output, n);
+        show(output, n, held.lines);
     }
 }
 
@@ -200,6 +169,7 @@ fn main() {
     let mut held = Held {
         from: 0,
         filled: 0,
+        lines: 0,
         is_open: true,
         turns: u64::MAX,
     };
@@ -222,8 +192,8 @@ fn main() {
             rest,
             &mut output,
         );
-        let is_open = show(&output, fed.written);
-        held = next(&mut input, held, fed.consumed, is_open);
+        let shown = show(&output, fed.written, held.lines);
+        held = next(&mut input, held, fed.consumed, shown);
     }
     end(held, &mut output);
 }

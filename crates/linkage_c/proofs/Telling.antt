@@ -31,7 +31,7 @@ use Rattle.protocol.proofs.Laws.{show-within}
 use Rattle.answers.specs.Answers.{shownPlace}
 use Rattle.encoding.specs.Written.{constraintOf}
 use Rattle.step.proofs.Answers.{of-directory, of-sessions, told-after, told-answer}
-use Rattle.given.specs.Given.{versionOr, rolesOr, flowOr, sizeOr, shownOr, Tells, Finds, Adds, Shows}
+use Rattle.given.specs.Given.{versionOr, rolesOr, flowOr, sizeOr, shownOr, Tells, Finds, Adds, Shows, Judges}
 
 -- ---- the step of which a function's call is a part
 
@@ -68,9 +68,12 @@ unfolding verdictOf answerOf
 as-answer Verdict·Granted = refl
 as-answer (Verdict·Refused why) = refl
 
-pub reads : (e : Engine) (p : Product) (u s t f d n : ℕ) → t ≡ sessionAt p s → n ≡ returned (read (e .directory) (e .sessions) u t f d) → n ≡ returned (verdict e (Read p u s f d))
+reads : (e : Engine) (p : Product) (u s t f d n : ℕ) → t ≡ sessionAt p s → n ≡ returned (read (e .directory) (e .sessions) u t f d) → n ≡ returned (verdict e (Read p u s f d))
 unfolding verdict answer step
 reads e p u s t f d n i h = h ∙ rw i (as-answer (read (e .directory) (e .sessions) u (sessionAt p s) f d))
+
+pub judges : (e : Engine) (u t f d n : ℕ) → n ≡ returned (read (e .directory) (e .sessions) u t f d) → Judges e u t f d n
+judges e u t f d n h = record { number = h; named = λ p s i. reads e p u s t f d n i h }
 
 -- ---- a constraint
 

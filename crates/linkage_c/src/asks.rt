@@ -11,12 +11,11 @@ ghost use mathlib.Core.List.{List};
 ghost use Prim.Native.Nat.{ℕ, _<_, _+_, _*_};
 ghost use lib.ListN.{getD, replicate};
 ghost use Rattle.model.specs.Limits.{flowCount};
-ghost use Rattle.model.specs.State.{placeCount, filled, tablesOf, directoryOf, sessionsOf, engineOf};
-ghost use Rattle.model.specs.Calls.{returned, verdict};
+ghost use Rattle.model.specs.State.{placeCount, sessionAt, filled, tablesOf, directoryOf, sessionsOf, engineOf};
 ghost use Rattle.model.specs.declared.calls.Ask.the-variants.{Open, Conflicting, Add, Show};
-ghost use Rattle.model.specs.declared.calls.Call.the-variants.{Session, Read};
+ghost use Rattle.model.specs.declared.calls.Call.the-variants.{Session};
 ghost use Rattle.encoding.specs.Written.{constraintOf};
-ghost use Rattle.given.specs.Given.{productOf, sessionOf, Tells, Finds, Adds, Shows};
+ghost use Rattle.given.specs.Given.{productOf, sessionOf, Tells, Finds, Adds, Shows, Judges};
 
 // 06 and 0b: the session is opened.
 #[no_mangle]
@@ -147,7 +146,18 @@ pub extern "C" fn linkage_lent_show<'a>(
     n
 }
 
-// 09 and 0e: whether the user may read the flow at the database. A read changes nothing.
+// The number of a product's session among those of both, by which a read names it; past them all where
+// there is no such session or no such product.
+#[no_mangle]
+pub extern "C" fn linkage_session(product: usize, session: usize) -> usize
+    ensures { λ r. ⌜ r ≡ sessionAt (productOf product) (sessionOf product session) ⌝ }
+{
+    number_of(product, session)
+}
+
+// 09 and 0e: whether the user may read the flow of the session of this number at the database. A read changes
+// nothing. Its parameters stand as in the function that it hands them to, so that none has to be moved: moving
+// them costs more than the read.
 #[no_mangle]
 pub extern "C" fn linkage_lent_read<'a>(
     roles: &'a [u64; Engine::USERS],
@@ -160,15 +170,13 @@ pub extern "C" fn linkage_lent_read<'a>(
     versions: &'a [Version; Engine::PLACES],
     denies: &'a [u64; Engine::PLACES],
     rolesets: &'a [u64; Engine::ROLE_SETS],
-    product: usize,
     user: usize,
-    session: usize,
+    number: usize,
     flow: usize,
     database: usize,
 ) -> u64
-    ensures { λ n. ⌜ ((forwards roots : List ℕ) (version : ℕ) → n ≡ returned (verdict (engineOf (directoryOf (tablesOf (now (roles .entry)) (now (readers .entry)) forwards (now (mandates .entry))) (now (users .entry)) version) (sessionsOf opened (now (counts .entry)) roots (now (reaches .entry)) (now (versions .entry)) (now (denies .entry)) (now (rolesets .entry)))) (Read (productOf product) user (sessionOf product session) flow database))) ⌝ }
+    ensures { λ n. ⌜ ((forwards roots : List ℕ) (version : ℕ) → Judges (engineOf (directoryOf (tablesOf (now (roles .entry)) (now (readers .entry)) forwards (now (mandates .entry))) (now (users .entry)) version) (sessionsOf opened (now (counts .entry)) roots (now (reaches .entry)) (now (versions .entry)) (now (denies .entry)) (now (rolesets .entry)))) user number flow database n) ⌝ }
 {
-    let s = number_of(product, session);
     reading::number(
         roles,
         readers,
@@ -181,7 +189,7 @@ pub extern "C" fn linkage_lent_read<'a>(
         denies,
         rolesets,
         user,
-        s,
+        number,
         flow,
         database,
     )

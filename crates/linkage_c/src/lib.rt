@@ -13,6 +13,7 @@ pub use asks::linkage_lent_conflicting;
 pub use asks::linkage_lent_open;
 pub use asks::linkage_lent_read;
 pub use asks::linkage_lent_show;
+pub use asks::linkage_session;
 pub use bytes::linkage_finish;
 pub use bytes::linkage_keep;
 pub use bytes::linkage_lent_feed;

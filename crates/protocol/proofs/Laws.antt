@@ -2,7 +2,7 @@
 -- Assumes nothing.
 use Prim.Native.Nat.{ℕ, zero, suc, _+_, _-_, _*_, _/_, _≤_, _<_}
 use mathlib.Core.Path.{_≡_, refl, sym, ap, _∙_}
-use mathlib.Core.Bool.{Bool, true, false, cond, not, _&&_, _||_}
+use mathlib.Core.Bool.{Bool, true, false, cond, not, _&&_, _||_, and-false}
 use mathlib.Core.List.{List, [], _∷_, _++_, map, append-nil, append-assoc}
 use native.Mathlib.Decide.{decLt}
 use native.Mathlib.Omega.{arith}
@@ -31,8 +31,8 @@ use Rattle.model.proofs.Chains.{not-met}
 use Rattle.model.proofs.SeenRows.{length-flows}
 use Rattle.model.proofs.Seen.{demand1}
 use Rattle.protocol.specs.Widths.{versionDigits, setDigits, kept, longest}
-use Rattle.protocol.specs.Digits.{allDigits, number, hex}
-use Rattle.protocol.specs.Lines.{restDigits, frame, callOf, lineFeed, roleSets, values, shownSets, lineOf}
+use Rattle.protocol.specs.Digits.{digit, allDigits, numberFrom, number, hex}
+use Rattle.protocol.specs.Lines.{restDigits, calledBy, called, frame, callOf, lineFeed, roleSets, values, shownSets, lineOf}
 use Rattle.protocol.specs.Run.{Split, withByte, split, lastCall, callsOf, shownIn, reply, replies, run, Fed, wrote, fedFrom, fed, feedAt, finish}
 
 -- ---- a line is read by its first 23 bytes
@@ -65,6 +65,25 @@ capped line = go (decLt 22 (length line))
     go : Dec (22 < length line) → callOf (take kept line) ≡ callOf line
     go (yes l) = longer (take kept line) (simp length-take (omega arith)) ∙ sym (longer line l)
     go (no l) = ap callOf (take-all kept line (omega arith))
+
+-- a line feed is no digit, so a line that has one in it is no frame
+feed-undigit : (line : List ℕ) → feedAt line < length line → allDigits line ≡ false
+unfolding feedAt allDigits digit
+feed-undigit [] l = absurd (omega arith)
+feed-undigit (b ∷ bs) l = go (eqb b lineFeed) refl l (feed-undigit bs)
+  where
+    go : (t : Bool) → eqb b lineFeed ≡ t → cond t 0 (suc (feedAt bs)) < suc (length bs) → (feedAt bs < length bs → allDigits bs ≡ false) → (ltb (digit b) 16 && allDigits bs) ≡ false
+    go true e k h = rw (eqb-true b lineFeed e) refl
+    go false e k h = rw (h (omega arith)) (and-false (ltb (digit b) 16))
+
+-- nor is the empty line
+pub empty-line : callOf [] ≡ Unreadable
+unfolding callOf allDigits number numberFrom frame restDigits called calledBy
+empty-line = refl
+
+pub feed-within : (line : List ℕ) → feedAt line < length line → callOf line ≡ Unreadable
+unfolding callOf
+feed-within line l = rw (feed-undigit line l) refl
 
 -- what is cut off from a line before more is added would be cut off after it
 take-first : (n : ℕ) (l m : List ℕ) → take n (take n l ++ m) ≡ take n (l ++ m)
@@ -324,7 +343,7 @@ unfolding fed
 no-more room e bytes q = fed-no-more room e [] bytes (no-feed-of bytes q)
 
 -- a line is answered where the longest answer has room
-fed-line : (room : ℕ) (e : Engine) (line piece bytes : List ℕ) → NoFeed piece → longest ≤ room → fedFrom room e line (piece ++ (lineFeed ∷ bytes))
+pub fed-line : (room : ℕ) (e : Engine) (line piece bytes : List ℕ) → NoFeed piece → longest ≤ room → fedFrom room e line (piece ++ (lineFeed ∷ bytes))
     ≡ wrote (reply e (callOf (line ++ piece))) (fedFrom (room - length (reply e (callOf (line ++ piece)))) (after e (callOf (line ++ piece))) [] bytes)
 fed-line room e line piece bytes none r = fed-feed room e line bytes ∙ rw (le-ltb room longest r, append-nil)
 fed-line room e line piece bytes (byte {b} {bs} n h) r = fed-byte room e line b (bs ++ (lineFeed ∷ bytes)) n ∙ fed-line room e (line ++ (b ∷ [])) bs bytes h r ∙ rw append-snoc

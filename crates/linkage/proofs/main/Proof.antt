@@ -31,7 +31,7 @@ show-requires : tie.Need-show-requires Inv-loop μ-loop
 show-requires c κs = tt
 
 next-requires : tie.Need-next-requires Inv-loop μ-loop
-next-requires c κs = search needs
+next-requires c κs = c .before .before .before .before .before .before .before .before .before .before .before .before .before .before .before .before .before .before .before .before .before .if1 .taken
 
 loop-less : tie.Need-loop-less Inv-loop μ-loop
 loop-less c = search needs
