@@ -4,14 +4,19 @@ use Prim.Native.Nat.{ℕ, _<_}
 use mathlib.Core.Path.{_≡_}
 use mathlib.Core.Bool.{cond}
 use lib.Dec.{eqb, ltb}
+use lib.ListN.{length}
+use Rattle.sets.specs.Sets.{has, count}
+use Rattle.tables.specs.Tables.{roleCount, databaseCount}
 use Rattle.model.specs.declared.Constraint.{Constraint}
 use Rattle.model.specs.declared.Engine.{Engine}
+use Rattle.model.specs.declared.calls.Refusal.{Refusal}
+use Rattle.model.specs.declared.calls.Change.{Change}
 use Rattle.model.specs.declared.calls.Product.{Product}
 use Rattle.model.specs.declared.calls.Product.the-variants.{Server, TermBank}
 use Rattle.model.specs.declared.calls.Ask.{Ask}
-use Rattle.model.specs.declared.calls.Ask.the-variants.{Show}
+use Rattle.model.specs.declared.calls.Ask.the-variants.{Open, Conflicting, Add, Show}
 use Rattle.model.specs.declared.calls.Call.{Call}
-use Rattle.model.specs.declared.calls.Call.the-variants.{Session, Read}
+use Rattle.model.specs.declared.calls.Call.the-variants.{Table, Session, Read}
 use Rattle.model.specs.declared.calls.Verdict.{Verdict}
 use Rattle.model.specs.declared.calls.Verdict.the-variants.{Granted as Verdict·Granted, Refused as Verdict·Refused}
 use Rattle.model.specs.declared.calls.Answer.{Answer}
@@ -19,6 +24,9 @@ use Rattle.model.specs.declared.calls.Answer.the-variants.{Version, Roles, Flow
 use Rattle.model.specs.Limits.{sessionCount}
 use Rattle.model.specs.State.{productCount, sessionAt}
 use Rattle.model.specs.Calls.{returned, read, answer, verdict, after, constraintAt}
+use Rattle.model.specs.Ledger.{reachOf, isConflicting}
+use Rattle.model.specs.Refusals.{newFlow}
+use Rattle.model.specs.Demands.{seen}
 
 -- ---- the session that a caller's numbers name
 
@@ -79,6 +87,23 @@ sizeOr old (Refused why) = old
 unfoldable pub shownOr : Constraint → Verdict → Constraint → Constraint
 shownOr old Verdict·Granted new = new
 shownOr old (Verdict·Refused why) new = old
+
+-- what these come to, by what a ledger sees of the engine: where a call is refused all of the caller's values stay; an accepted one brings the values that
+-- document 01 gives it
+pub record ValuesMean (e : Engine) : Type 0 where
+  pub kept : (c : Call) (why : Refusal) (old : ℕ) → verdict e c ≡ Verdict·Refused why
+      → (versionOr old (answer e c) ≡ old) × (rolesOr old (answer e c) ≡ old) × (flowOr old (answer e c) ≡ old) × (sizeOr old (answer e c) ≡ old)
+  -- "for 01–06 the system version", and for 10
+  pub changed : (c : Change) (old : ℕ) → verdict e (Table c) ≡ Verdict·Granted → versionOr old (answer e (Table c)) ≡ seen (after e (Table c)) .system
+  pub opened : (p : Product) (s old : ℕ) → verdict e (Session p s Open) ≡ Verdict·Granted → versionOr old (answer e (Session p s Open)) ≡ seen (after e (Session p s Open)) .system
+  -- "for 07 the role set"
+  pub asked : (p : Product) (s root old r : ℕ) → verdict e (Session p s (Conflicting root)) ≡ Verdict·Granted → r < roleCount
+      → has (rolesOr old (answer e (Session p s (Conflicting root)))) r ≡ isConflicting (seen e) p s (newFlow (seen e) p s root 0) r
+  -- "for 08 flow number, count of databases in the reach, version"
+  pub added : (p : Product) (s root chosen old : ℕ) → verdict e (Session p s (Add root chosen)) ≡ Verdict·Granted
+      → (flowOr old (answer e (Session p s (Add root chosen))) ≡ length (seen e .flows p s))
+      × (sizeOr old (answer e (Session p s (Add root chosen))) ≡ count databaseCount (reachOf (seen e) root))
+      × (versionOr old (answer e (Session p s (Add root chosen))) ≡ seen e .system)
 
 -- ---- call by call, on an engine e
 
