@@ -3,7 +3,7 @@
 #
 # Builds what is for C and what is for Rust over the archive, in a temporary
 # folder, and
-#   - runs the two examples and the Rust tests;
+#   - runs the two examples, which README shows word for word, and the Rust tests;
 #   - runs the stored lists of crates/lists_try through the library frame by
 #     frame, by typed calls, and as a stream in pieces of 1, 7 and 4096 bytes,
 #     from C and from Rust, and compares each answer with the frame program's and
@@ -66,6 +66,12 @@ for said in said said-rust; do
     grep '^user' "$tmp/$said" > "$tmp/$said.verdicts"
 done
 cmp "$tmp/said.verdicts" "$tmp/said-rust.verdicts" || exit 1
+shown() { # LANGUAGE FILE: README has the file, word for word
+    awk -v fence="\`\`\`$1" '$0 == fence { on = 1; next } /^```$/ { on = 0 } on' "$here/../README.md" |
+        cmp - "$here/$2" || exit 1
+}
+shown c example.c
+shown rust rust/examples/read.rs
 cargo test --quiet --offline --locked --manifest-path "$here/rust/Cargo.toml" > "$tmp/tests" 2>&1 || {
     cat "$tmp/tests"
     exit 1
