@@ -1,16 +1,17 @@
 #!/bin/sh
-# failures.sh PROGRAM
+# failures.sh PROGRAM [PICTURE]
 #
 # Tries what goes wrong around PROGRAM: input that can't be read, output that
 # can't be written, pipes that close, descriptors that don't block, calls that
 # are interrupted.  What it says on standard error, what it writes and how it
-# ends have to be as docs/FRAMES.md has them.  A line for each case; it stops
-# with status 1 at the first that differs.  It needs python3, and a C compiler
-# for the last cases.  From the root of the repository:
-#     reference/failures.sh target/bin/linkage
+# ends have to be as docs/FRAMES.md has them, and for PICTURE, where it is named,
+# as docs/PICTURE.md has them.  A line for each case; it stops with status 1 at
+# the first that differs.  It needs python3, and a C compiler for the last cases.
+# From the root of the repository:
+#     reference/failures.sh target/bin/linkage target/bin/picture
 set -u
-if [ $# -ne 1 ]; then
-    echo "usage: failures.sh PROGRAM" >&2
+if [ $# -ne 1 ] && [ $# -ne 2 ]; then
+    echo "usage: failures.sh PROGRAM [PICTURE]" >&2
     exit 2
 fi
 tmp=$(mktemp -d) || exit 2
@@ -59,13 +60,14 @@ ssize_t write(int fd, const void *bytes, size_t n)
 C
 "${CC:-cc}" -O1 -shared -fPIC -o "$tmp/calls.so" "$tmp/calls.c" || exit 2
 
-python3 - "$1" "$tmp" <<'PYTHON'
+python3 - "$tmp" "$@" <<'PYTHON'
 import errno, fcntl, os, pty, resource, signal, subprocess, sys, threading, time, tty
 
-name, tmp = sys.argv[1:]
-program = os.path.abspath(name)
-if not os.access(program, os.X_OK):
-    sys.exit("failures.sh: %s is no program" % name)
+tmp, *names = sys.argv[1:]
+for name in names:
+    if not os.access(name, os.X_OK):
+        sys.exit("failures.sh: %s is no program" % name)
+program, *picture = [os.path.abspath(name) for name in names]
 
 
 # A list of n lines and its answers, short ones and long ones.
@@ -79,8 +81,8 @@ def run(n):
     return text(frames), text(answers)
 
 
-def not_read(n, error):
-    return b"linkage: lines after line %d were not read: %s\n" % (n, os.strerror(error).encode())
+def not_read(n, error, who=b"linkage"):
+    return b"%s: lines after line %d were not read: %s\n" % (who, n, os.strerror(error).encode())
 
 
 def not_written(n, error):
@@ -106,13 +108,13 @@ FEW, FEW_ANSWERS = run(5)
 
 # One run whose streams are as `before` makes them; what it says, what it writes
 # to a pipe, and how it ends (0, or the signal's number below 0).
-def start(before=None, close=(), stdin=None, stdout=subprocess.PIPE, stderr=subprocess.PIPE, env=None):
+def start(before=None, close=(), stdin=None, stdout=subprocess.PIPE, stderr=subprocess.PIPE, env=None, command=(program,)):
     def ready():
         if before:
             before()
         for fd in close:
             os.close(fd)
-    return subprocess.Popen([program], stdin=stdin, stdout=stdout, stderr=stderr, bufsize=0, preexec_fn=ready,
+    return subprocess.Popen(command, stdin=stdin, stdout=stdout, stderr=stderr, bufsize=0, preexec_fn=ready,
                             env=dict(os.environ, **(env or {})))
 
 
@@ -145,23 +147,31 @@ simple("output closed, no input", b"", b"", close=[1])
 # ---- a disk that gets full: the file takes its first bytes and no more
 ends = [i + 1 for i, b in enumerate(ANSWERS) if b == 10]
 limits = [4, ends[0], ends[0] + 1, 65536, ends[9000] - 1, ends[9000], ends[9000] + 1, 200001, len(ANSWERS) - 1]
-for limit in limits:
-    case = "a disk full after %d bytes" % limit
+
+
+def filling(case, text, wanted, limit, wanted_said, **words):
+    """A run on a file, into a file that takes this many bytes."""
     path = os.path.join(tmp, "out")
 
     def small():
         signal.signal(signal.SIGXFSZ, signal.SIG_IGN)
         resource.setrlimit(resource.RLIMIT_FSIZE, (limit, limit))
 
-    with file_of(FRAMES) as f, open(path, "wb") as out:
-        p = start(small, stdin=f, stdout=out)
+    with file_of(text) as f, open(path, "wb") as out:
+        p = start(small, stdin=f, stdout=out, **words)
         _, said = p.communicate()
     with open(path, "rb") as out:
         written = out.read()
-    same(case, "the file has", written, ANSWERS[:limit])
-    same(case, "it says", said, not_written(written.count(b"\n"), errno.EFBIG))
+    same(case, "the file has", written, wanted[:limit])
+    same(case, "it says", said, wanted_said)
     same(case, "it ends", p.returncode, 0)
-    right(case, ", %d lines are whole" % written.count(b"\n"))
+
+
+for limit in limits:
+    case = "a disk full after %d bytes" % limit
+    whole = ANSWERS[:limit].count(b"\n")
+    filling(case, FRAMES, ANSWERS, limit, not_written(whole, errno.EFBIG))
+    right(case, ", %d lines are whole" % whole)
 
 # ---- input that can't be read
 simple("input closed", b"", not_read(0, errno.EBADF), close=[0])
@@ -227,7 +237,7 @@ def waits(fd):
     fcntl.fcntl(fd, fcntl.F_SETFL, fcntl.fcntl(fd, fcntl.F_GETFL) | os.O_NONBLOCK)
 
 
-def slow(case, input_waits, output_waits):
+def slow(case, input_waits, output_waits, frames=FRAMES, wanted=ANSWERS, **words):
     its_in, our_out = os.pipe()
     our_in, its_out = os.pipe()
     if input_waits:
@@ -236,14 +246,14 @@ def slow(case, input_waits, output_waits):
         waits(its_out)
         fcntl.fcntl(its_out, 1031, 4096)                # F_SETPIPE_SZ
     began = time.time()
-    p = start(stdin=its_in, stdout=its_out)
+    p = start(stdin=its_in, stdout=its_out, **words)
     os.close(its_in)
     os.close(its_out)
 
     def send():
-        step = len(FRAMES) // 20 + 1
-        for i in range(0, len(FRAMES), step):
-            os.write(our_out, FRAMES[i:i + step])
+        step = len(frames) // 20 + 1
+        for i in range(0, len(frames), step):
+            os.write(our_out, frames[i:i + step])
             if input_waits:
                 time.sleep(0.05)
         os.close(our_out)
@@ -265,7 +275,7 @@ def slow(case, input_waits, output_waits):
     _, status, use = os.wait4(p.pid, 0)
     p.returncode = status
     took, used = time.time() - began, use.ru_utime + use.ru_stime
-    same(case, "it writes", written, ANSWERS)
+    same(case, "it writes", written, wanted)
     same(case, "it says", said, b"")
     same(case, "it ends", status, 0)
     if used > took / 5:
@@ -318,4 +328,75 @@ right("writes that fail after 0 to %d bytes" % n)
 simple("a last line without its line feed", FEW + b"06", b"", FEW_ANSWERS + b"01\n")
 simple("its answer can't be written", FEW + b"06", not_written(5, errno.EIO), FEW_ANSWERS,
        env={"LD_PRELOAD": LIBRARY, "WRITES": "-e"})
+
+# ---- a picture of a session: input that can't be read gives none; where the
+# output can't be written that is said once, and nothing more is written
+if not picture:
+    sys.exit(0)
+ASKED = picture + ["server", "00"]
+SET_UP = ["0600"] + ["03%02x%02x" % (r, d) for d in range(8) for r in range(16)] + ["0800%02x%016x" % (d, 0) for d in range(8)]
+SET_UP = "".join(frame + "\n" for frame in SET_UP).encode()
+
+
+def no_lines(n, error):
+    return not_read(n, error, b"picture")
+
+
+def not_whole(error):
+    return b"picture: the picture was not written whole: %s\n" % os.strerror(error).encode()
+
+
+case = "a picture"
+with file_of(SET_UP) as f:
+    PICTURE, said = start(stdin=f, command=ASKED).communicate()
+same(case, "it says", said, b"")
+same(case, "its start and its end", (PICTURE[:5], PICTURE[-7:]), (b"<svg ", b"</svg>\n"))
+same(case, "it takes several writes", len(PICTURE) > 20000, True)
+right(case, ", %d bytes" % len(PICTURE))
+
+with open("/dev/full", "wb") as full:
+    simple("a picture, a full disk", SET_UP, not_whole(errno.ENOSPC), None, stdout=full, command=ASKED)
+    with file_of(SET_UP) as f:
+        case = "a picture, a full disk, and errors closed"
+        same(case, "it ends", start(stdin=f, stdout=full, stderr=None, close=[2], command=ASKED).wait(), 0)
+        right(case)
+simple("a picture, output closed", SET_UP, not_whole(errno.EBADF), close=[1], command=ASKED)
+for limit in (1, 4095, 4096, 4097, 8192, 10000, len(PICTURE) - 1):
+    case = "a picture, a disk full after %d bytes" % limit
+    filling(case, SET_UP, PICTURE, limit, not_whole(errno.EFBIG), command=ASKED)
+    right(case)
+
+simple("a picture, input closed", b"", no_lines(0, errno.EBADF), close=[0], command=ASKED)
+folder = os.open(tmp, os.O_RDONLY)
+simple("a picture, a directory as input", b"", no_lines(0, errno.EISDIR), stdin=folder, command=ASKED)
+os.close(folder)
+for n in (0, 4, 5, 6, 12, 19):
+    simple("a picture, a read that fails after %d bytes" % n, SET_UP, no_lines(SET_UP[:n].count(b"\n"), errno.EIO),
+           command=ASKED, env={"LD_PRELOAD": LIBRARY, "READS": n * "1" + "e"})
+
+# ---- a pipe that nobody reads; a second write that fails; descriptors that don't block
+for case, handled, ends in (("a picture, a pipe that is closed", signal.SIG_DFL, -signal.SIGPIPE),
+                            ("a picture, a pipe that is closed, the signal ignored", signal.SIG_IGN, 0)):
+    unread, its_out = os.pipe()
+    os.close(unread)
+    simple(case, SET_UP, b"", None, ends, before=lambda: signal.signal(signal.SIGPIPE, handled), stdout=its_out, command=ASKED)
+    os.close(its_out)
+simple("a picture, a write that fails in the middle", SET_UP, not_whole(errno.EIO), PICTURE[:4097], command=ASKED,
+       env={"LD_PRELOAD": LIBRARY, "WRITES": "-1e"})
+simple("a picture, calls that are interrupted, would have to wait, or move a byte", SET_UP, b"", PICTURE, command=ASKED,
+       env={"LD_PRELOAD": LIBRARY, "READS": 20 * "i1a", "WRITES": 20 * "i1a"})
+slow("a picture, neither blocks", True, True, SET_UP, PICTURE, command=ASKED)
+
+# ---- asked for wrongly: a line on standard error, and no picture
+for asked in ([], ["server"], ["server", "00", "00"], ["servers", "00"], ["serve", "00"], ["Server", "00"], ["", "00"],
+              ["server", "0"], ["server", "10"], ["server", "0g"], ["server", "0A"], ["server", "000"], ["server", ""],
+              ["server", "01"], ["bank", "00"]):
+    case = "a picture, asked for as '%s'" % " ".join(asked)
+    with file_of(SET_UP) as f:
+        p = start(stdin=f, command=picture + asked)
+        written, said = p.communicate()
+    same(case, "it writes", written, b"")
+    same(case, "it says", (said[:9], said.count(b"\n"), said[-1:]), (b"picture: ", 1, b"\n"))
+    same(case, "it ends", p.returncode, 0)
+    right(case, ", " + said.decode().rstrip()[9:])
 PYTHON

@@ -6,7 +6,7 @@ use model::Product;
 // How many bytes of an argument are looked at: one more than the longest right one has.
 const LONGEST: usize = 7;
 
-// A line on standard error.
+// A line on standard error. Where that can't be written there is nobody to tell.
 fn say(line: &[u8]) {
     io::write_all(STDERR_FILENO, line);
 }
@@ -80,7 +80,7 @@ fn session_of(product: Product) -> usize {
 
 // The number among those of both products of the session that is asked for. Where the arguments are
 // wrong, that is said, and the number is past them all.
-pub fn session_asked() -> usize {
+pub(crate) fn session_asked() -> usize {
     if os::arg_count() != 3 {
         return wrong(
             b"picture: name a product and a session, as in: picture server 00 < FRAMES > OUT.svg\n",
@@ -98,7 +98,7 @@ pub fn session_asked() -> usize {
 }
 
 // Whether session s is among the open ones. Where it isn't, that is said.
-pub fn is_there(opened: u64, s: usize) -> bool {
+pub(crate) fn is_there(opened: u64, s: usize) -> bool {
     if sets::contains(opened, s) {
         return true;
     }

@@ -21,7 +21,7 @@ const ROLES: usize = 350;
 const RADIUS: usize = 16;
 
 // Where lines to the overlapping roles begin.
-pub const LEAVING: usize = ROLES + RADIUS;
+pub(crate) const LEAVING: usize = ROLES + RADIUS;
 
 // How deep n rows are.
 fn rows(n: usize) -> usize {
@@ -32,7 +32,7 @@ fn rows(n: usize) -> usize {
 }
 
 // The middle of row i of a band that begins at this height.
-pub fn row_at(top: usize, i: usize) -> usize {
+pub(crate) fn row_at(top: usize, i: usize) -> usize {
     numbers::plus(numbers::plus(top, HEAD + ROW / 2), rows(i))
 }
 
@@ -43,7 +43,7 @@ fn depth(reach: u64, may: u64) -> usize {
 }
 
 // Where the next band begins.
-pub fn below(top: usize, reach: u64, may: u64) -> usize {
+pub(crate) fn below(top: usize, reach: u64, may: u64) -> usize {
     numbers::plus(numbers::plus(top, depth(reach, may)), 16)
 }
 
@@ -188,7 +188,7 @@ fn ground(out: &mut [u8; ROOM], at: &mut usize, g: usize, top: usize, depth: usi
 }
 
 // All of flow g: its root, its reach and the roles that may read a database of it.
-pub fn flow<'a>(
+pub(crate) fn flow<'a>(
     out: &mut [u8; ROOM],
     at: &mut usize,
     readers: &'a [u64; Engine::DATABASES],

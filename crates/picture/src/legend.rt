@@ -57,7 +57,7 @@ text{font-family:Arial,Helvetica,sans-serif;font-size:14px;fill:#111}
 }
 
 // The start of a picture of this height.
-pub fn begin(out: &mut [u8; ROOM], at: &mut usize, height: usize) {
+pub(crate) fn begin(out: &mut [u8; ROOM], at: &mut usize, height: usize) {
     page::text(out, at, b"<svg xmlns='http://www.w3.org/2000/svg'");
     page::number(out, at, b"width", WIDTH);
     page::number(out, at, b"height", height);
@@ -69,12 +69,12 @@ pub fn begin(out: &mut [u8; ROOM], at: &mut usize, height: usize) {
     style(out, at);
 }
 
-pub fn end(out: &mut [u8; ROOM], at: &mut usize) {
+pub(crate) fn end(out: &mut [u8; ROOM], at: &mut usize) {
     page::text(out, at, b"</svg>\n");
 }
 
 // The names of the columns.
-pub fn columns(out: &mut [u8; ROOM], at: &mut usize, y: usize) {
+pub(crate) fn columns(out: &mut [u8; ROOM], at: &mut usize, y: usize) {
     shapes::words(out, at, b'm', 162, y, b"databases");
     shapes::words(out, at, b'm', 350, y, b"roles that read");
     shapes::words(out, at, b'm', 622, y, b"users who hold both");
@@ -142,7 +142,7 @@ fn role_marks(out: &mut [u8; ROOM], at: &mut usize, y: usize) {
 }
 
 // All marks. Gives the height below them.
-pub fn marks(out: &mut [u8; ROOM], at: &mut usize, y: usize) -> usize {
+pub(crate) fn marks(out: &mut [u8; ROOM], at: &mut usize, y: usize) -> usize {
     shapes::words(out, at, b'h', 24, y, b"Marks");
     flow_marks(out, at, numbers::plus(y, 30));
     role_marks(out, at, numbers::plus(y, 110));

@@ -1,9 +1,9 @@
 // A picture of a session, in the manner of Figure 2 of source document 000: `picture PRODUCT SESSION`
 // reads frames from standard input, as `linkage` does, and writes the session as they leave it to
-// standard output, as SVG. Answers are not written.
+// standard output, as SVG. Answers are not written. What can't be read or written is said on standard
+// error.
 mod asked;
 mod flows;
-mod input;
 mod legend;
 mod numbers;
 mod overlaps;
@@ -13,11 +13,18 @@ mod session;
 mod shapes;
 mod users;
 
-use input::BUFFER;
 use model::Engine;
 use model::Version;
+use taking::BUFFER;
 
-// Carries out all frames of standard input. Their answers are dropped.
+// How many lines are carried out: those before, and one for each of the answers in the first n bytes.
+fn carried_out(lines: u64, answers: &[u8], n: usize) -> u64 {
+    let end = streams::within(n, answers);
+    streams::lines_and(lines, &answers[..end])
+}
+
+// Carries out all frames of standard input. Their answers are dropped. Whether the input was read to its
+// end; where it wasn't, that is said.
 fn carry_out(
     roles: &mut [u64; Engine::USERS],
     readers: &mut [u64; Engine::DATABASES],
@@ -32,10 +39,10 @@ fn carry_out(
     versions: &mut [Version; Engine::PLACES],
     denies: &mut [u64; Engine::PLACES],
     rolesets: &mut [u64; Engine::ROLE_SETS],
-) {
+) -> bool {
     let mut input = [0u8; BUFFER];
     let mut output = [0u8; BUFFER];
-    let mut held = input::nothing();
+    let mut held = taking::nothing();
     while 0 < held.turns {
         let fed = frames::feed(
             roles,
@@ -51,15 +58,24 @@ fn carry_out(
             versions,
             denies,
             rolesets,
-            input::part(&input, held.from, held.filled),
+            taking::part(&input, held.from, held.filled),
             &mut output,
         );
-        held = input::next(&mut input, held, fed.consumed);
+        let lines = carried_out(held.lines, &output, fed.written);
+        held = taking::next(
+            &mut input,
+            held,
+            fed.consumed,
+            lines,
+            true,
+            b"picture: lines after line ",
+        );
     }
+    held.is_open
 }
 
 // Carries out all frames from a fresh engine, of which these arrays are what a picture shows. Whether
-// session s is open then; where it isn't, that is said.
+// all were read and session s is open then; where not, that is said.
 fn run(
     roles: &mut [u64; Engine::USERS],
     readers: &mut [u64; Engine::DATABASES],
@@ -76,7 +92,7 @@ fn run(
     let mut users = [0 as Version; Engine::USERS];
     let mut version: Version = 0;
     let mut opened = 0u64;
-    carry_out(
+    let is_whole = carry_out(
         roles,
         readers,
         forwards,
@@ -91,6 +107,9 @@ fn run(
         denies,
         rolesets,
     );
+    if !is_whole {
+        return false;
+    }
     asked::is_there(opened, s)
 }
 

@@ -3,7 +3,7 @@
 use model::Engine;
 
 // The sum, or the greatest number.
-pub fn plus(a: usize, b: usize) -> usize {
+pub(crate) fn plus(a: usize, b: usize) -> usize {
     if usize::MAX - a < b {
         return usize::MAX;
     }
@@ -11,14 +11,14 @@ pub fn plus(a: usize, b: usize) -> usize {
 }
 
 // The difference, or nothing.
-pub fn less(a: usize, b: usize) -> usize {
+pub(crate) fn less(a: usize, b: usize) -> usize {
     if a < b {
         return 0;
     }
     a - b
 }
 
-pub fn greater(a: usize, b: usize) -> usize {
+pub(crate) fn greater(a: usize, b: usize) -> usize {
     if a < b { b } else { a }
 }
 
@@ -26,12 +26,12 @@ fn wide(n: u32) -> usize {
     n as usize
 }
 
-pub fn size(set: u64) -> usize {
+pub(crate) fn size(set: u64) -> usize {
     wide(sets::size(set))
 }
 
 // How many members of the set come before i.
-pub fn rank(set: u64, i: usize) -> usize {
+pub(crate) fn rank(set: u64, i: usize) -> usize {
     if sets::SIZE <= i {
         return 0;
     }
@@ -39,12 +39,12 @@ pub fn rank(set: u64, i: usize) -> usize {
 }
 
 // The lowest member, or 64.
-pub fn lowest(set: u64) -> usize {
+pub(crate) fn lowest(set: u64) -> usize {
     wide(u64::trailing_zeros(set))
 }
 
 // Where flow g of session s stands in the engine's arrays; past them all where there is no such flow.
-pub fn place(s: usize, g: usize) -> usize {
+pub(crate) fn place(s: usize, g: usize) -> usize {
     if Engine::ALL_SESSIONS <= s {
         return Engine::PLACES;
     }
@@ -55,7 +55,7 @@ pub fn place(s: usize, g: usize) -> usize {
 }
 
 // Where its role set for flow h stands.
-pub fn set_place(s: usize, g: usize, h: usize) -> usize {
+pub(crate) fn set_place(s: usize, g: usize, h: usize) -> usize {
     let at = place(s, g);
     if Engine::PLACES <= at {
         return Engine::ROLE_SETS;

@@ -49,7 +49,7 @@ fn colours(may: &[u64; Engine::FLOWS], overlapping: u64) -> usize {
 }
 
 // Whether the role that overlaps with these ones has two colours or more.
-pub fn is_coloured(may: &[u64; Engine::FLOWS], overlapping: u64) -> bool {
+pub(crate) fn is_coloured(may: &[u64; Engine::FLOWS], overlapping: u64) -> bool {
     2 <= colours(may, overlapping)
 }
 
@@ -142,7 +142,14 @@ fn ground(is_conflicting: bool, is_grey: bool) -> u8 {
 }
 
 // A square without a name, at this place of its middle, with a second border where it is denied.
-pub fn mark(out: &mut [u8; ROOM], at: &mut usize, ground: u8, is_denied: bool, x: usize, y: usize) {
+pub(crate) fn mark(
+    out: &mut [u8; ROOM],
+    at: &mut usize,
+    ground: u8,
+    is_denied: bool,
+    x: usize,
+    y: usize,
+) {
     let left = numbers::less(x, SIDE / 2);
     let top = numbers::less(y, SIDE / 2);
     if is_denied {
@@ -204,7 +211,7 @@ fn overlapping_role<'a>(
 }
 
 // All overlapping roles. Gives the height below them.
-pub fn overlapping_roles<'a>(
+pub(crate) fn overlapping_roles<'a>(
     out: &mut [u8; ROOM],
     at: &mut usize,
     roles: &'a [u64; Engine::USERS],

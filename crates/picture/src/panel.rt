@@ -16,7 +16,7 @@ const LINE: usize = 18;
 // How many roles stand on a line.
 const ON_A_LINE: usize = 9;
 
-pub fn heading(out: &mut [u8; ROOM], at: &mut usize, y: usize, text: &[u8]) -> usize {
+pub(crate) fn heading(out: &mut [u8; ROOM], at: &mut usize, y: usize, text: &[u8]) -> usize {
     shapes::words(out, at, b'h', LEFT, y, text);
     numbers::plus(y, LINE + 2)
 }
@@ -120,7 +120,7 @@ fn denial(out: &mut [u8; ROOM], at: &mut usize, deny: u64, y: usize) -> usize {
 }
 
 // The constraint of flow g of session s. Gives the height below it.
-pub fn constraint<'a>(
+pub(crate) fn constraint<'a>(
     out: &mut [u8; ROOM],
     at: &mut usize,
     versions: &'a [Version; Engine::PLACES],
@@ -219,7 +219,7 @@ fn why<'a>(
 }
 
 // Why each of these roles conflicts. Gives the height below it.
-pub fn reasons<'a>(
+pub(crate) fn reasons<'a>(
     out: &mut [u8; ROOM],
     at: &mut usize,
     roles: &'a [u64; Engine::USERS],
@@ -256,7 +256,7 @@ fn cleared<'a>(
 }
 
 // Says of them that they don't. Gives the height below it.
-pub fn clearings<'a>(
+pub(crate) fn clearings<'a>(
     out: &mut [u8; ROOM],
     at: &mut usize,
     roles: &'a [u64; Engine::USERS],

@@ -231,7 +231,7 @@ fn end(out: &mut [u8; ROOM], at: &mut usize) {
 
 // Writes the picture of session s, which has its number among those of both products. It is gone through
 // twice, since its height stands at its start.
-pub fn show<'a>(
+pub(crate) fn show<'a>(
     roles: &'a [u64; Engine::USERS],
     readers: &'a [u64; Engine::DATABASES],
     forwards: &'a [u64; Engine::DATABASES],

@@ -21,7 +21,7 @@ fn bounds(out: &mut [u8; ROOM], at: &mut usize, x: usize, y: usize, width: usize
 }
 
 // A rectangle of flow g.
-pub fn rectangle(
+pub(crate) fn rectangle(
     out: &mut [u8; ROOM],
     at: &mut usize,
     letter: u8,
@@ -38,7 +38,7 @@ pub fn rectangle(
 }
 
 // A rectangle of no flow.
-pub fn plain(
+pub(crate) fn plain(
     out: &mut [u8; ROOM],
     at: &mut usize,
     letter: u8,
@@ -55,7 +55,14 @@ pub fn plain(
 }
 
 // A circle of flow g.
-pub fn circle(out: &mut [u8; ROOM], at: &mut usize, g: usize, x: usize, y: usize, radius: usize) {
+pub(crate) fn circle(
+    out: &mut [u8; ROOM],
+    at: &mut usize,
+    g: usize,
+    x: usize,
+    y: usize,
+    radius: usize,
+) {
     page::text(out, at, b"<circle");
     class(out, at, b'd', g);
     page::number(out, at, b"cx", x);
@@ -65,26 +72,26 @@ pub fn circle(out: &mut [u8; ROOM], at: &mut usize, g: usize, x: usize, y: usize
 }
 
 // A line of flow g begins; points follow, and then its end. It is filled where its letter is a.
-pub fn begin_path(out: &mut [u8; ROOM], at: &mut usize, letter: u8, g: usize) {
+pub(crate) fn begin_path(out: &mut [u8; ROOM], at: &mut usize, letter: u8, g: usize) {
     page::text(out, at, b"<path");
     class(out, at, letter, g);
     page::text(out, at, b" d='");
 }
 
 // A point of a line: M where it begins, L where it goes straight, C for the three points of a curve.
-pub fn point(out: &mut [u8; ROOM], at: &mut usize, letter: u8, x: usize, y: usize) {
+pub(crate) fn point(out: &mut [u8; ROOM], at: &mut usize, letter: u8, x: usize, y: usize) {
     page::byte(out, at, letter);
     page::decimal(out, at, x);
     page::byte(out, at, b' ');
     page::decimal(out, at, y);
 }
 
-pub fn end_path(out: &mut [u8; ROOM], at: &mut usize) {
+pub(crate) fn end_path(out: &mut [u8; ROOM], at: &mut usize) {
     page::text(out, at, b"'/>\n");
 }
 
 // A text begins: t is the title, h a heading, n plain, m stands around its place, and so does w, in white.
-pub fn begin_text(out: &mut [u8; ROOM], at: &mut usize, letter: u8, x: usize, y: usize) {
+pub(crate) fn begin_text(out: &mut [u8; ROOM], at: &mut usize, letter: u8, x: usize, y: usize) {
     page::text(out, at, b"<text class='");
     page::byte(out, at, letter);
     page::byte(out, at, b'\'');
@@ -94,7 +101,7 @@ pub fn begin_text(out: &mut [u8; ROOM], at: &mut usize, letter: u8, x: usize, y:
 }
 
 // A text in the colour of flow g begins: i is a heading, j small.
-pub fn begin_text_of(
+pub(crate) fn begin_text_of(
     out: &mut [u8; ROOM],
     at: &mut usize,
     letter: u8,
@@ -109,12 +116,12 @@ pub fn begin_text_of(
     page::byte(out, at, b'>');
 }
 
-pub fn end_text(out: &mut [u8; ROOM], at: &mut usize) {
+pub(crate) fn end_text(out: &mut [u8; ROOM], at: &mut usize) {
     page::text(out, at, b"</text>\n");
 }
 
 // The name of flow g, in its colour.
-pub fn flow_name(out: &mut [u8; ROOM], at: &mut usize, g: usize, x: usize, y: usize) {
+pub(crate) fn flow_name(out: &mut [u8; ROOM], at: &mut usize, g: usize, x: usize, y: usize) {
     begin_text_of(out, at, b'i', g, x, y);
     page::text(out, at, b"Flow ");
     page::hex(out, at, g, 2);
@@ -122,14 +129,21 @@ pub fn flow_name(out: &mut [u8; ROOM], at: &mut usize, g: usize, x: usize, y: us
 }
 
 // A whole text.
-pub fn words(out: &mut [u8; ROOM], at: &mut usize, letter: u8, x: usize, y: usize, text: &[u8]) {
+pub(crate) fn words(
+    out: &mut [u8; ROOM],
+    at: &mut usize,
+    letter: u8,
+    x: usize,
+    y: usize,
+    text: &[u8],
+) {
     begin_text(out, at, letter, x, y);
     page::text(out, at, text);
     end_text(out, at);
 }
 
 // The name of a role or a database, in the middle of its shape.
-pub fn label(
+pub(crate) fn label(
     out: &mut [u8; ROOM],
     at: &mut usize,
     class: u8,

@@ -70,7 +70,7 @@ fn users(
 }
 
 // What stands on the edge from role r to role o, in an open text.
-pub fn on_edge(
+pub(crate) fn on_edge(
     out: &mut [u8; ROOM],
     at: &mut usize,
     roles: &[u64; Engine::USERS],
@@ -149,7 +149,7 @@ fn notes_from(
 }
 
 // All lists, of the roles that may read some flow.
-pub fn notes(
+pub(crate) fn notes(
     out: &mut [u8; ROOM],
     at: &mut usize,
     roles: &[u64; Engine::USERS],

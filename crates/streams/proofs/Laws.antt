@@ -1,4 +1,4 @@
--- Counting line feeds, byte by byte and block by block; putting a sentence together, part by part.
+-- Counting line feeds, byte by byte and block by block; putting a sentence together, part by part; what stays before a part that is lent.
 -- Assumes nothing.
 use Prim.Native.Nat.{ℕ, zero, suc, _+_, _-_, _≤_, _<_, min}
 use mathlib.Core.Path.{_≡_, refl, sym, ap, _∙_}
@@ -10,6 +10,7 @@ use lib.Dec.{eqb}
 use lib.ListN.{length, getD, take, drop, set, take-append-drop, length-append, length-take, length-drop}
 use lib.Seq.{drop-cons, drop-drop, drop-length, take-nil, take-at, drop-at, paste, paste-zero, paste-suc, length-paste}
 use borrow.Author.Tests.{eq-eqb, ne-eqb}
+use borrow.Rule.Slice.PartMut.{putMid, take-put}
 use Rattle.io.specs.Digits.{digits, Fewest}
 use Rattle.streams.specs.Feeds.{feed, feeds}
 use Rattle.streams.specs.Said.{Placed, Begins, Said}
@@ -178,3 +179,11 @@ module _ {old before shown behind first second third : List ℕ} {n k from to en
   said f e p q r =
       let g : Begins old ((before ++ shown) ++ behind) third end = begins-more (begins-more (begins-more (begins-empty old) p) q) r in
       record { k = k; fewest = f; begins = rw (← e, ← append-assoc before shown behind) g }
+
+-- a list with other elements from a place on has its first elements
+pub stays : (n a k : ℕ) (xs ys : List ℕ) → a ≡ min n (length xs) → length (putMid a k xs ys) ≡ length xs → take n (putMid a k xs ys) ≡ take n xs
+stays n a k xs ys e l =
+    let new : List ℕ = putMid a k xs ys in
+    let to : length (take n new) ≡ a = length-take n new ∙ omega (arith, e, l) in
+    let from : length (take n xs) ≡ a = length-take n xs ∙ sym e in
+    sym (take-count n new) ∙ ap (λ (m : ℕ). take m new) to ∙ take-put a k xs ys (omega (arith, e)) ∙ ap (λ (m : ℕ). take m xs) (sym from) ∙ take-count n xs

@@ -9,7 +9,7 @@ use libc::STDOUT_FILENO;
 use libc::types::timespec;
 ghost use Prim.Native.Nat.{_+_, _≤_, min};
 ghost use mathlib.Core.Path.{_≡_};
-ghost use lib.ListN.{length};
+ghost use lib.ListN.{length, take};
 ghost use Rattle.io.specs.Counts.{Counts};
 ghost use Rattle.streams.specs.Feeds.{feeds};
 ghost use Rattle.streams.specs.Feeds.{feed as Feeds·feed};
@@ -88,10 +88,11 @@ fn read_some(fd: i32, bytes: &mut [u8]) -> Read
     }
 }
 
-// Reads from a descriptor behind the first n bytes of a buffer.
+// Reads from a descriptor behind the first n bytes of a buffer, which stay.
 pub fn read_behind(fd: i32, input: &mut [u8], n: usize) -> Read
     ensures { λ r. ⌜ Counts (r .end) (now (input .exit)) ⌝ }
     ensures { λ r. ⌜ min n (length (now (input .entry))) ≤ r .end ⌝ }
+    ensures { λ r. ⌜ take n (now (input .exit)) ≡ take n (now (input .entry)) ⌝ }
 {
     let from = within(n, input);
     let got = read_some(fd, &mut input[from..]);
@@ -194,6 +195,17 @@ pub fn lines(text: &[u8]) -> usize
     n
 }
 
+// How many lines there are after those of a text are counted too, or the last number where that is less.
+pub fn lines_and(n: u64, text: &[u8]) -> u64
+    ensures { λ r. ⌜ r ≡ min (n + feeds (now (text .entry))) 18446744073709551615 ⌝ }
+{
+    let more = lines(text) as u64;
+    if u64::MAX - n < more {
+        return u64::MAX;
+    }
+    n + more
+}
+
 // Puts bytes into a text from a place on, as many as it has room for, and gives the place behind them.
 fn copy_to(text: &mut [u8], place: usize, bytes: &[u8]) -> usize
     ensures { λ r. ⌜ Counts r (now (text .exit)) ⌝ }
@@ -234,4 +246,15 @@ pub fn say_after(text: &mut [u8], before: &[u8], n: u64, behind: &[u8]) -> usize
     let end = copy_to(text, to, behind);
     say(&text[..end]);
     end
+}
+
+// Writes all bytes, and says what failed where not all are written. It gives how many were.
+pub fn write_or_say(bytes: &[u8], what: &[u8]) -> usize
+    ensures { λ r. ⌜ Counts r (now (bytes .entry)) ⌝ }
+{
+    let written = write_all(bytes);
+    if written < bytes.len() {
+        say(what);
+    }
+    written
 }

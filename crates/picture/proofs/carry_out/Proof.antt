@@ -7,10 +7,13 @@ use Rattle.picture.proofs.carry_out.Statement.{statement}
 use Rattle.picture.proofs.carry_out.Tie as tie
 
 abbrev Inv-loop : tie.InvT-loop
-Inv-loop roles₀ readers₀ forwards₀ mandates₀ users₀ version₀ opened₀ counts₀ roots₀ reaches₀ versions₀ denies₀ rolesets₀ input₀ output₀ held₀ roles readers forwards mandates users version opened counts roots reaches versions denies rolesets input output held = 65536 ≡ length output
+Inv-loop roles₀ readers₀ forwards₀ mandates₀ users₀ version₀ opened₀ counts₀ roots₀ reaches₀ versions₀ denies₀ rolesets₀ input₀ output₀ held₀ words₀ roles readers forwards mandates users version opened counts roots reaches versions denies rolesets input output held = 65536 ≡ length output
 
 abbrev μ-loop : tie.MeasureT-loop
-μ-loop roles₀ readers₀ forwards₀ mandates₀ users₀ version₀ opened₀ counts₀ roots₀ reaches₀ versions₀ denies₀ rolesets₀ input₀ output₀ held₀ roles readers forwards mandates users version opened counts roots reaches versions denies rolesets input output held = held .turns
+μ-loop roles₀ readers₀ forwards₀ mandates₀ users₀ version₀ opened₀ counts₀ roots₀ reaches₀ versions₀ denies₀ rolesets₀ input₀ output₀ held₀ words₀ roles readers forwards mandates users version opened counts roots reaches versions denies rolesets input output held = held .turns
+
+loop-less : tie.Need-loop-less Inv-loop μ-loop
+loop-less c = c .next .ensures .ends (c .before .before .before .before .before .before .before .before .before .before .before .before .before .before .before .before .before .before .before .before .before .before .before .if1 .taken)
 
 pub carry-out-spec : {M : Type 1} → statement M
 carry-out-spec =
@@ -23,7 +26,10 @@ carry-out-spec =
     (λ c κs. search needs)
     (λ c. search needs)
     (λ c κs. search needs)
+    (λ c. search needs)
     (λ c κs. search needs)
     (λ c. search needs)
+    (λ c κs. search needs)
+    loop-less
     (λ c. search needs)
     (λ c. search needs))
