@@ -1,8 +1,8 @@
 -- A line as it is taken for a frame: what its length says of it, and that it is the call that the line is.
 -- Assumes nothing.
-use Prim.Native.Nat.{ℕ, zero, suc, _+_, _≤_, _<_}
-use mathlib.Core.Path.{_≡_, refl, sym, ap, _∙_}
-use mathlib.Core.Bool.{Bool, true, false, cond}
+use Prim.Native.Nat.{ℕ, _+_, _≤_, _<_}
+use mathlib.Core.Path.{_≡_, refl, sym, _∙_}
+use mathlib.Core.Bool.{Bool, true, false}
 use mathlib.Core.List.{List, [], _∷_, _++_}
 use native.Mathlib.Omega.{arith}
 use lib.Dec.{leb, ltb}
@@ -14,7 +14,6 @@ use Rattle.protocol.specs.Widths.{kept}
 use Rattle.protocol.specs.Lines.{lineFeed, callOf}
 use Rattle.protocol.specs.Run.{feedAt}
 use Rattle.protocol.proofs.Laws.{NoFeed, none, longer, empty-line, feed-within, feedAt-le, no-feed-of}
-use Rattle.decoding.specs.declared.lines.Framed.{Framed}
 use Rattle.decoding.specs.Frames.{framing, IsFramed}
 
 pub framing-long : (line : List ℕ) → kept ≤ length line → take 0 line ≡ framing line

@@ -1,19 +1,19 @@
 -- One frame by the machine that takes pieces of input: a line with its line feed is a piece of one line.
 -- Assumes nothing.
 use Prim.Native.Nat.{ℕ, _-_, _≤_, _<_}
-use mathlib.Core.Path.{_≡_, refl, sym, ap, _∙_}
-use mathlib.Core.Bool.{Bool, true, false, cond}
+use mathlib.Core.Path.{_≡_, ap, _∙_}
+use mathlib.Core.Bool.{true, false}
 use mathlib.Core.List.{List, [], _∷_, _++_, append-nil}
 use native.Mathlib.Decide.{decLt}
 use native.Mathlib.Omega.{arith}
 use lib.Dec.{leb}
-use lib.ListN.{length, take, drop}
+use lib.ListN.{length}
 use borrow.Author.Tests.{le-leb, lt-leb}
 use Rattle.model.specs.declared.Engine.{Engine}
 use Rattle.model.specs.Calls.{after}
 use Rattle.protocol.specs.Widths.{longest}
 use Rattle.protocol.specs.Lines.{lineFeed, callOf}
-use Rattle.protocol.specs.Run.{reply, wrote, Fed, fedFrom, fed}
+use Rattle.protocol.specs.Run.{reply, wrote, fedFrom, fed}
 use Rattle.protocol.proofs.Laws.{NoFeed, no-room, fed-line}
 use Rattle.decoding.specs.Frames.{framing}
 use Rattle.decoding.proofs.Framing.{framing-same}

@@ -1,6 +1,5 @@
 -- What the values mean that a caller is given back: demand 1 says what each answer is.
 -- Assumes nothing.
-use Prim.Native.Nat.{ℕ}
 use mathlib.Core.Path.{refl}
 use Rattle.model.specs.declared.Engine.{Engine}
 use Rattle.model.specs.declared.calls.Ask.the-variants.{Open, Conflicting, Add}

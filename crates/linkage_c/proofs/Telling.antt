@@ -21,10 +21,9 @@ use Rattle.model.specs.declared.calls.Call.the-variants.{Table, Session, Read}
 use Rattle.model.specs.declared.calls.Verdict.{Verdict}
 use Rattle.model.specs.declared.calls.Verdict.the-variants.{Granted as Verdict·Granted, Refused as Verdict·Refused}
 use Rattle.model.specs.declared.calls.Answer.{Answer}
-use Rattle.model.specs.declared.calls.Answer.the-variants.{Constraint as Answer·Constraint}
 use Rattle.model.specs.Limits.{flowCount, lastVersion}
 use Rattle.model.specs.State.{allSessions, sessionAt, engineOf, place, setPlace, rolesetAt, filled}
-use Rattle.model.specs.Calls.{done, returned, verdictOf, answerOf, change, ask, read, step, answer, verdict, after, constraintAt}
+use Rattle.model.specs.Calls.{done, returned, verdictOf, answerOf, change, ask, read, step, answer, verdict, constraintAt}
 use Rattle.model.proofs.Seen.{demand1}
 use Rattle.model.proofs.Demands.{told}
 use Rattle.protocol.proofs.Laws.{show-within}

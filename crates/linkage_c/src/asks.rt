@@ -12,7 +12,7 @@ ghost use Prim.Native.Nat.{ℕ, _<_, _+_, _*_};
 ghost use lib.ListN.{getD, replicate};
 ghost use Rattle.model.specs.Limits.{flowCount};
 ghost use Rattle.model.specs.State.{placeCount, sessionAt, filled, tablesOf, directoryOf, sessionsOf, engineOf};
-ghost use Rattle.model.specs.declared.calls.Ask.the-variants.{Open, Conflicting, Add, Show};
+ghost use Rattle.model.specs.declared.calls.Ask.the-variants.{Open, Conflicting, Add};
 ghost use Rattle.model.specs.declared.calls.Call.the-variants.{Session};
 ghost use Rattle.encoding.specs.Written.{constraintOf};
 ghost use Rattle.given.specs.Given.{productOf, sessionOf, Tells, Finds, Adds, Shows, Judges};

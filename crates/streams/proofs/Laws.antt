@@ -12,7 +12,7 @@ use lib.Seq.{drop-cons, drop-drop, drop-length, take-nil, take-at, drop-at, past
 use borrow.Author.Tests.{eq-eqb, ne-eqb}
 use borrow.Rule.Slice.PartMut.{putMid, take-put}
 use Rattle.io.specs.Digits.{digits, Fewest}
-use Rattle.streams.specs.Feeds.{feed, feeds}
+use Rattle.streams.specs.Feeds.{feed, feeds, FeedsMean}
 use Rattle.streams.specs.Said.{Placed, Begins, Said}
 
 pub feed-here : (b : ℕ) → b ≡ 10 → 1 ≡ feed b
@@ -22,6 +22,15 @@ feed-here b e = rw (eq-eqb b 10 e)
 pub feed-other : (b : ℕ) → (b ≡ 10 → ⊥) → 0 ≡ feed b
 unfolding feed
 feed-other b n = rw (ne-eqb b 10 n)
+
+pub feeds-mean : FeedsMean
+unfolding feeds
+feeds-mean =
+    record {
+      counted = λ text. rw (← feed-here 10 refl) (omega arith);
+      passed = λ byte text n. rw (← feed-other byte n) (omega arith);
+      empty = refl;
+    }
 
 feed-most : (b : ℕ) → feed b ≤ 1
 unfolding feed

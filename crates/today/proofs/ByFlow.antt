@@ -1,17 +1,16 @@
 -- Where the sets are the readers of the flows that are there, what the search finds is what conflicts.
 -- Assumes nothing.
-use Prim.Native.Nat.{ℕ, _≤_, _<_}
-use mathlib.Core.Path.{_≡_, refl, sym, ap, _∙_}
+use Prim.Native.Nat.{ℕ, _<_}
+use mathlib.Core.Path.{_≡_, refl, ap, _∙_}
 use mathlib.Core.Bool.{Bool, true, false, cond, _&&_}
 use mathlib.Core.List.{List}
-use mathlib.Core.Logic.{⊎-elim}
 use native.Mathlib.Nat.{zero-add}
 use native.Mathlib.Omega.{arith}
 use lib.Dec.{leb}
 use lib.ListN.{getD, replicate}
 use borrow.Author.Tests.{lt-ltb, leb-false}
 use Rattle.sets.specs.Sets.{meeting}
-use Rattle.sets.proofs.Laws.{true-or-false, some-cong, count-cong, setOf-cong}
+use Rattle.sets.proofs.Laws.{some-cong, count-cong, setOf-cong}
 use Rattle.rows.specs.Rows.{there}
 use Rattle.tables.specs.Tables.{readersOf, userCount, roleCount, databaseCount}
 use Rattle.tables.proofs.Laws.{meets-readers}

@@ -1,4 +1,3 @@
-use mathlib.Core.Path.{ap, _∙_}
 use borrow.Author.Needs.{needs}
 use Rattle.given.proofs.number_of.Statement.{statement}
 use Rattle.given.proofs.number_of.Tie as tie

@@ -1,5 +1,4 @@
 use native.Mathlib.Omega.{arith}
-use borrow.Author.Needs.{needs}
 use Rattle.given.proofs.Products.{server-of, bank-of}
 use Rattle.given.proofs.product_of.Statement.{statement}
 use Rattle.given.proofs.product_of.Tie as tie

@@ -1,5 +1,4 @@
 use native.Mathlib.Omega.{arith}
-use borrow.Author.Needs.{needs}
 use Rattle.given.proofs.Products.{one-such, none-such}
 use Rattle.given.proofs.session_of.Statement.{statement}
 use Rattle.given.proofs.session_of.Tie as tie
