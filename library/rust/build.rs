@@ -3,22 +3,18 @@
 use std::env;
 use std::path::PathBuf;
 
-const ARCHIVES: [&str; 1] = ["linkage_c"];
-
 fn main() {
     let here = PathBuf::from(env::var_os("CARGO_MANIFEST_DIR").expect("cargo tells the folder"));
     let folder = match env::var_os("LINKAGE_LIB") {
         Some(named) => PathBuf::from(named),
         None => here.join("../../target/staticlib"),
     };
-    println!("cargo:rerun-if-env-changed=LINKAGE_LIB");
-    println!("cargo:rustc-link-search=native={}", folder.display());
-    for name in ARCHIVES {
-        let archive = folder.join(format!("lib{name}.a"));
-        if !archive.is_file() {
-            panic!("no {}: `rt staticlib {name}` makes it", archive.display());
-        }
-        println!("cargo:rerun-if-changed={}", archive.display());
-        println!("cargo:rustc-link-lib=static={name}");
+    let archive = folder.join("liblinkage_c.a");
+    if !archive.is_file() {
+        panic!("no {}: `rt staticlib linkage_c` makes it", archive.display());
     }
+    println!("cargo:rerun-if-env-changed=LINKAGE_LIB");
+    println!("cargo:rerun-if-changed={}", archive.display());
+    println!("cargo:rustc-link-search=native={}", folder.display());
+    println!("cargo:rustc-link-lib=static=linkage_c");
 }
