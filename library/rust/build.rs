@@ -11,7 +11,10 @@ fn main() {
     };
     let archive = folder.join("liblinkage_c.a");
     if !archive.is_file() {
-        panic!("no {}: `rt staticlib linkage_c` makes it", archive.display());
+        panic!(
+            "no {}: `rt staticlib linkage_c` makes it",
+            archive.display()
+        );
     }
     println!("cargo:rerun-if-env-changed=LINKAGE_LIB");
     println!("cargo:rerun-if-changed={}", archive.display());
