@@ -3,11 +3,6 @@
 use Prim.Native.Nat.{ℕ}
 use Rattle.output.specs.declared.Line.{Line}
 use Rattle.output.specs.declared.Line.the-variants.{Written, NoRoom}
-use Rattle.frames.specs.declared.stream.Fed.{Fed}
-
--- how many bytes of a piece were taken, and how many written
-abbrev pub given : ℕ → ℕ → Fed
-given consumed written = record { consumed = consumed; written = written }
 
 -- how long a line is that was written; 0 where none was
 unfoldable pub lengthOf : Line → ℕ

@@ -10,7 +10,7 @@ ghost use Rattle.protocol.specs.Run.{fed, keptOf};
 ghost use Rattle.pieces.specs.Pieces.{between};
 ghost use Rattle.output.specs.Output.{ending, endAnswer, endWritten};
 ghost use Rattle.frames.specs.Stream.{Answers, Feeds};
-ghost use Rattle.linkage_c.specs.Bytes.{given, lengthOf};
+ghost use Rattle.linkage_c.specs.Bytes.{lengthOf};
 
 // The engine is made fresh: empty tables, no open session, every version 0.
 #[no_mangle]
@@ -108,7 +108,7 @@ pub extern "C" fn linkage_lent_feed(
     out: &mut [u8],
     consumed: &mut usize,
 ) -> usize
-    ensures { λ n. ⌜ Feeds (now (input .entry)) (now (out .entry)) (now (out .exit)) (engineOf (directoryOf (tablesOf (now (roles .exit)) (now (readers .exit)) (now (forwards .exit)) (now (mandates .exit))) (now (users .exit)) (now (version .exit))) (sessionsOf (now (opened .exit)) (now (counts .exit)) (now (roots .exit)) (now (reaches .exit)) (now (versions .exit)) (now (denies .exit)) (now (rolesets .exit)))) (fed (length (now (out .entry))) (engineOf (directoryOf (tablesOf (now (roles .entry)) (now (readers .entry)) (now (forwards .entry)) (now (mandates .entry))) (now (users .entry)) (now (version .entry))) (sessionsOf (now (opened .entry)) (now (counts .entry)) (now (roots .entry)) (now (reaches .entry)) (now (versions .entry)) (now (denies .entry)) (now (rolesets .entry)))) (now (input .entry))) (given (now (consumed .exit)) n) ⌝ }
+    ensures { λ n. ⌜ Feeds (now (input .entry)) (now (out .entry)) (now (out .exit)) (engineOf (directoryOf (tablesOf (now (roles .exit)) (now (readers .exit)) (now (forwards .exit)) (now (mandates .exit))) (now (users .exit)) (now (version .exit))) (sessionsOf (now (opened .exit)) (now (counts .exit)) (now (roots .exit)) (now (reaches .exit)) (now (versions .exit)) (now (denies .exit)) (now (rolesets .exit)))) (fed (length (now (out .entry))) (engineOf (directoryOf (tablesOf (now (roles .entry)) (now (readers .entry)) (now (forwards .entry)) (now (mandates .entry))) (now (users .entry)) (now (version .entry))) (sessionsOf (now (opened .entry)) (now (counts .entry)) (now (roots .entry)) (now (reaches .entry)) (now (versions .entry)) (now (denies .entry)) (now (rolesets .entry)))) (now (input .entry))) (record { consumed = now (consumed .exit); written = n }) ⌝ }
 {
     let x = frames::feed(
         roles,
