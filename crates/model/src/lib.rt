@@ -1,5 +1,7 @@
 // The linkage engine in definitions: what it keeps, what can be asked of it, what it answers, and
 // what is promised of that. There is no code here: the crate `engine` has it.
+#![tactic(auto)]
+
 mod calls;
 
 pub use calls::{Answer, Ask, Call, Change, Product, Refusal, Verdict};

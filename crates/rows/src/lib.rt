@@ -3,6 +3,8 @@
 //
 // Every function answers for any numbers: past the last row, and above what a row can hold, nothing
 // is there and nothing changes.
+#![tactic(auto)]
+
 ghost use Rattle.std.specs.Prelude.{◌≡◌, get_or, set};
 ghost use Rattle.rows.specs.Rows.{width, there, entered, struck, image};
 ghost use Rattle.rows.specs.Reach.{level, reach};

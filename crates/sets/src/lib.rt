@@ -1,6 +1,8 @@
 // Sets of up to 64 numbers, each kept in a u64: number i is bit i, 0 the lowest.
 //
 // Every function answers for any number: one of 64 or more is in no set, and nothing puts it in.
+#![tactic(auto)]
+
 ghost use Rattle.std.specs.Prelude.{◌≡◌};
 ghost use Rattle.sets.specs.Sets.{has, inserted, removed, joined, shared, lacking, meeting, size_of};
 

@@ -3,6 +3,8 @@
 // rows that are lent; `tables_by_value` has it for tables by value.
 //
 // Every function answers for any numbers: above its limit nothing is there, and nothing changes.
+#![tactic(auto)]
+
 pub mod lent;
 
 #[derive(Drop)]

@@ -2,6 +2,8 @@
 // Who lends the rows takes `tables::lent`.
 //
 // Every function answers for any numbers: above its limit nothing is there, and nothing changes.
+#![tactic(auto)]
+
 ghost use Rattle.std.specs.Prelude.{◌≡◌};
 ghost use Rattle.sets.specs.Sets.{size_of};
 ghost use Rattle.rows.specs.Reach.{reach};
