@@ -2,16 +2,11 @@
 use mathlib.Core.Path.{ap, ◌∙◌}
 use mathlib.Core.Bool.{not}
 use lib.Dec.{eqb}
-use borrow.Author.Rules.{rules}
 use Rattle.sets.proofs.Laws.{lacking_some}
 use Rattle.tables.specs.Tables.{role_count}
 use Rattle.model.specs.State.{outside}
-use Rattle.search.proofs.outside.Statement.{statement}
-use Rattle.search.proofs.outside.Tie as tie
+use Rattle.search.proofs.outside.Goals as goal
 
-returns : tie.Need-returns
+pub returns : goal.returns
 unfolding outside
 returns c = ap (λ x. not (eqb x 0)) c.difference.ensures ∙ lacking_some role_count _ _
-
-pub outside_spec : {M : Type 1} → statement M
-outside_spec = tie.close (tie.spec (λ c κs. search rules) returns)
