@@ -1,6 +1,6 @@
 -- A run that moves is a run of the engine: calls that the old engine refused for want of a version are struck out, and all else is as it was.
 -- Assumes nothing.
-use Prim.Native.Nat.{ℕ, zero, suc, ◌+◌, ◌-◌, ◌≤◌, ◌<◌}
+use Prim.Native.Nat.{ℕ, zero, suc, ◌-◌, ◌≤◌, ◌<◌}
 use mathlib.Core.Path.{◌≡◌, refl, sym, ap, ◌∙◌, subst}
 use mathlib.Core.Bool.{Bool, true, false, cond, ◌&&◌, true≢false, and-false}
 use mathlib.Core.List.{List, [], ◌∷◌, ◌++◌}

@@ -13,6 +13,7 @@ pub mod Lasting
 pub mod Steps
 pub mod Kept
 pub mod Demands
+pub mod MandateCalls
 pub mod Mandates
 pub mod Versions
 pub mod Closing

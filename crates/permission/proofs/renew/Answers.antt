@@ -5,7 +5,6 @@ use native.Mathlib.Numerals.{add-one}
 use native.Mathlib.Omega.{arith}
 use Rattle.sets.specs.Sets.{some}
 use Rattle.sets.proofs.Laws.{or_none, some_none, some_suc, some_at}
-use Rattle.rows.specs.Rows.{there}
 use Rattle.tables.specs.Tables.{held_by, user_count}
 use Rattle.model.proofs.Laws.{given_start, given_more, given_same}
 use Rattle.permission.proofs.renew.Goals as goal

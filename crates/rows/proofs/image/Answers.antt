@@ -1,9 +1,4 @@
-use Prim.Native.Nat.{◌<◌}
-use mathlib.Core.Path.{◌≡◌}
-use mathlib.Core.Bool.{true}
 use native.Mathlib.Omega.{arith}
-use lib.Count.{count_trailing_zeros}
-use Rattle.sets.specs.Sets.{has}
 use Rattle.sets.proofs.Laws.{next_member, remove_falls}
 use Rattle.rows.proofs.Laws.{gathered_start, gathered_step, gathered_all}
 use Rattle.rows.proofs.image.Goals as goal
@@ -21,12 +16,12 @@ pub bounds-rows-a : goal.bounds-rows-a
 bounds-rows-a c = (next_member 64 _ c.loop-left.invariant.bound c.loop-left-test.true).0
 
 pub loop-left-smaller : goal.loop-left-smaller
-loop-left-smaller c = 
+loop-left-smaller c =
     let m = next_member 64 _ c.loop-left.invariant.bound c.loop-left-test.true in
     omega (arith, remove_falls 64 _ _ c.loop-left.invariant.bound m.0 m.1, c.remove-left.ensures)
 
 pub loop-left-preserved : goal.loop-left-preserved
-loop-left-preserved c = 
+loop-left-preserved c =
     let m = next_member 64 _ c.loop-left.invariant.bound c.loop-left-test.true in
     gathered_step 64 _ _ _ _ _ _ _ c.loop-left.invariant m.0 m.1 c.union-found.ensures c.remove-left.ensures
 

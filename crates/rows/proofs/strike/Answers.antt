@@ -3,5 +3,5 @@ use Rattle.rows.proofs.strike.Goals as goal
 
 pub returns : goal.returns
 unfolding struck
-returns c = 
+returns c =
     rw (c.put.ensures, c.remove.ensures, c.row-old.ensures)

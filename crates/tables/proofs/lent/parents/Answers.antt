@@ -10,11 +10,10 @@ loop-u-init c = (omega arith, parents_start 64 _ _)
 pub loop-u-preserved : goal.loop-u-preserved
 loop-u-preserved c =
     let g = c.loop-u.invariant.1 in
-    let meets = sym c.meets.ensures in
-    (
+    let meets = sym c.meets.ensures in (
       omega arith,
       elim c.if-meets.branch [
-        then-meets w ↦ parents_taken 64 _ _ _ _ _ g (meets ∙ w.if-meets.true) (w.found-is ∙ w.union-found.ensures)
+        | then-meets w ↦ parents_taken 64 _ _ _ _ _ g (meets ∙ w.if-meets.true) (w.found-is ∙ w.union-found.ensures)
         | else-meets w ↦ rw w.found-is (parents_left 64 _ _ _ _ g (meets ∙ w.if-meets.false))
       ],
     )
