@@ -2,15 +2,13 @@ use Prim.Native.Nat.{ℕ}
 use mathlib.Core.Path.{◌≡◌, refl, ◌∙◌}
 use mathlib.Core.Bool.{Bool, true, false, ◌&&◌}
 use mathlib.Core.List.{List}
-use borrow.Author.Rules.{rules}
 use borrow.Author.Tests.{eq-eqb, ne_eqb}
 use Rattle.sets.proofs.Laws.{and_all}
 use Rattle.tables.specs.Tables.{held_by, user_count}
 use Rattle.model.specs.Limits.{last_version}
 use Rattle.model.specs.State.{tables_of, directory_of}
 use Rattle.model.specs.Calls.{spent}
-use Rattle.permission.proofs.spent.Statement.{statement}
-use Rattle.permission.proofs.spent.Tie as tie
+use Rattle.permission.proofs.spent.Goals as goal
 
 module _ (roles readers forwards mandates versions : List ℕ) (version r : ℕ) where
   -- there is a version left
@@ -26,13 +24,8 @@ module _ (roles readers forwards mandates versions : List ℕ) (version r : ℕ)
   unfolding spent
   none_left held h e = rw (eq-eqb version last_version h) (e ∙ and_all (held_by user_count roles r))
 
-returns : tie.Need-returns
-returns c readers forwards mandates versions = some_left _ readers forwards mandates versions _ _ c.if1.true
+pub returns-then-version-ne-LAST_VERSION : goal.returns-then-version-ne-LAST_VERSION
+returns-then-version-ne-LAST_VERSION c readers forwards mandates versions = some_left _ readers forwards mandates versions _ _ c.if-version-ne-LAST_VERSION.true
 
-returns_2 : tie.Need-returns-2
-returns_2 c readers forwards mandates versions =
-    let test1 = c.before in
-    none_left _ readers forwards mandates versions _ _ _ test1.if1.false c.held.ensures
-
-pub spent_spec : {M : Type 1} → statement M
-spent_spec = tie.close (tie.spec returns (λ c κs. search rules) returns_2)
+pub returns : goal.returns
+returns c readers forwards mandates versions = none_left _ readers forwards mandates versions _ _ _ c.if-version-ne-LAST_VERSION.false c.held.ensures

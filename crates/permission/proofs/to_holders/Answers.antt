@@ -5,7 +5,6 @@ use mathlib.Core.Bool.{Bool, true, false, true≢false}
 use mathlib.Core.List.{List}
 use mathlib.Core.Logic.{⊎_elim}
 use native.Mathlib.Omega.{arith}
-use borrow.Author.Rules.{rules}
 use borrow.Author.Tests.{eq-eqb}
 use Rattle.sets.proofs.Laws.{true_or_false, and_all, some_at}
 use Rattle.rows.specs.Rows.{there}
@@ -14,8 +13,7 @@ use Rattle.model.specs.Limits.{last_version}
 use Rattle.model.specs.State.{tables_of, directory_of, given, new_version}
 use Rattle.model.specs.Calls.{spent, to_holders}
 use Rattle.model.proofs.Laws.{given_none}
-use Rattle.permission.proofs.to_holders.Statement.{statement}
-use Rattle.permission.proofs.to_holders.Tie as tie
+use Rattle.permission.proofs.to_holders.Goals as goal
 
 module _ (roles readers forwards mandates versions : List ℕ) (version r : ℕ) where
   given_to : (versions' : List ℕ) (held : Bool) → held ≡ held_by user_count roles r → versions' ≡ given (λ u. there roles u r) (version + 1) user_count versions → held ≡ true
@@ -38,21 +36,13 @@ module _ (roles readers forwards mandates versions : List ℕ) (version r : ℕ)
       let nobody : held_by user_count roles r ≡ false = and_all (held_by user_count roles r) ∙ (rw (eq-eqb version last_version e) at h) in
       rw nobody
 
-returns : tie.Need-returns
-returns c readers forwards mandates =
-    let at_renew = c.before in
-    given_to _ readers forwards mandates _ _ _ _ _ at_renew.renew.ensures.0 at_renew.renew.ensures.1 c.if2.true
+pub returns-then-renew : goal.returns-then-renew
+returns-then-renew c readers forwards mandates = given_to _ readers forwards mandates _ _ _ _ _ c.renew.ensures.0 c.renew.ensures.1 c.if-renew.true
 
-returns_2 : tie.Need-returns-2
-returns_2 c readers forwards mandates =
-    let at_renew = c.before in
-    given_nobody _ readers forwards mandates _ _ _ _ _ at_renew.renew.ensures.0 at_renew.renew.ensures.1 c.if2.false
+pub returns-else-renew : goal.returns-else-renew
+returns-else-renew c readers forwards mandates = given_nobody _ readers forwards mandates _ _ _ _ _ c.renew.ensures.0 c.renew.ensures.1 c.if-renew.false
 
-returns_3 : tie.Need-returns-3
-returns_3 c readers forwards mandates =
-    let start = c.before.before in
-    let e : start.args.version.now ≡ last_version = omega arith in
-    last _ readers forwards mandates _ _ _ e (start.requires readers forwards mandates)
-
-pub to_holders_spec : {M : Type 1} → statement M
-to_holders_spec = tie.close (tie.spec (λ c. search rules) (λ c κs. search rules) returns returns_2 returns_3)
+pub returns-else-version-lt-LAST_VERSION : goal.returns-else-version-lt-LAST_VERSION
+returns-else-version-lt-LAST_VERSION c readers forwards mandates =
+    let e : c.args.version.now ≡ last_version = omega arith in
+    last _ readers forwards mandates _ _ _ e (c.requires readers forwards mandates)
