@@ -1,5 +1,7 @@
 // What is asked of an answer before it is written: the number it returns, and the place of the flow whose
 // constraint it shows.
+#![tactic(auto)]
+
 ghost use Rattle.std.specs.Prelude.{◌≡◌, ◌<◌};
 ghost use Rattle.model.specs.State.{place_count};
 ghost use Rattle.model.specs.Calls.{number_of, returned, verdict_of};

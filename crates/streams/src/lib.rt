@@ -5,6 +5,8 @@
 // A call that a signal interrupts is made again, and one on a descriptor that does not block after a
 // short sleep. What is read or written no contract can say: counts are within the buffers, and the
 // sentence about a failure is promised as it stands in the text that is lent for it.
+#![tactic(auto)]
+
 ghost use Rattle.std.specs.Prelude.{◌+◌, ◌≤◌, min, ◌≡◌, length, take};
 ghost use Rattle.io.specs.Counts.{IsPrefixLen};
 ghost use Rattle.streams.specs.Feeds.{feeds};

@@ -1,5 +1,7 @@
 // Tries the tables: a fixed list of changes and questions, one answer a line, in hexadecimal.
 // A yes is 1 and a no is 0.
+#![tactic(auto)]
+
 use tables_by_value::{
     Tables, assign, empty, forward, forwards_to, has_mandate, held, holds, mandate, may_read,
     parents, permit, reach, reach_size, readers, reads, revoke, unforward, withdraw,
