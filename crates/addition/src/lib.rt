@@ -2,6 +2,8 @@
 // answered in one function, which promises what the call's definition in `model` says. Its work runs in
 // the order of `graph`: databases, roles, overlapping roles. A session has here its number among those
 // of both products.
+#![tactic(auto)]
+
 ghost use Rattle.std.specs.Prelude.{◌≡◌, List, ℕ, ◌<◌, ◌*◌};
 ghost use Rattle.model.specs.Limits.{flow_count};
 ghost use Rattle.model.specs.State.{all_sessions, place_count};

@@ -1,5 +1,7 @@
 // What is asked of an answer before it is written: the number it returns, and the place of the flow whose
 // constraint it shows.
+#![tactic(auto)]
+
 ghost use Rattle.std.specs.Prelude.{◌≡◌, ◌<◌};
 ghost use Rattle.model.specs.State.{place_count};
 ghost use Rattle.model.specs.Calls.{number_of, returned, verdict_of};
@@ -8,6 +10,7 @@ ghost use Rattle.answers.specs.Answers.{has_place, shown_place};
 use model::{Answer, Engine, Refusal};
 
 // The number of a refusal.
+#[tactic(auto, unfolding(model::specs::Calls::number_of))]
 fn number(why: Refusal) -> u64
     ensures { result ≡ number_of why }
 {
@@ -31,6 +34,7 @@ fn number(why: Refusal) -> u64
 }
 
 // 0 for what is accepted, else the number refused.
+#[tactic(auto, unfolding(model::specs::Calls::returned, model::specs::Calls::verdict_of))]
 pub fn returned(a: Answer) -> u64
     ensures { result ≡ returned (verdict_of a) }
 {

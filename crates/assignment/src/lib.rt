@@ -1,5 +1,7 @@
 // The calls that change who holds which role. Each is checked, carried out in place on lent arrays and
 // answered in one function, which promises what the call's definition in `model` says.
+#![tactic(auto)]
+
 ghost use Rattle.std.specs.Prelude.{◌≡◌, List, ℕ};
 ghost use Rattle.model.specs.Limits.{last_version};
 ghost use Rattle.model.specs.State.{tables_of, directory_of};

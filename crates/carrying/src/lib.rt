@@ -1,5 +1,7 @@
 // An engine of the width before request K4 is carried over: its versions had 16 bits. Any value of the
 // old struct is taken, also one that no calls lead to.
+#![tactic(auto)]
+
 ghost use Rattle.std.specs.Prelude.{◌≡◌, length};
 ghost use Rattle.carrying.specs.Carrying.{carried_directory, carried_sessions, carried_over};
 

@@ -1,5 +1,7 @@
 // Reading frames: a line of bytes to its call, and the next line of an input. What a caller needs of
 // `digits` and `pieces` stands here too.
+#![tactic(auto)]
+
 mod lines;
 mod read;
 

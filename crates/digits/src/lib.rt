@@ -1,5 +1,7 @@
 // The digits as two tables, of what a byte counts for as the first of two digits and as the second. A
 // loop takes them once and lends them to whatever reads a line.
+#![tactic(auto)]
+
 ghost use Rattle.std.specs.Prelude.{◌≡◌, ◌+◌, ◌≤◌, ◌<◌, get_or};
 ghost use Rattle.protocol.specs.Digits.{glyph};
 ghost use Rattle.digits.specs.Tables.{digit_table, high_table, low_table};

@@ -1,5 +1,7 @@
 // Writing an answer: its line, in digits, into a lent buffer from a place on. What is asked of an answer
 // is in `answers`; a digit, the room in a buffer and the end of input are in `output`.
+#![tactic(auto)]
+
 ghost use Rattle.std.specs.Prelude.{◌≡◌, ◌&&◌, List, [], ◌∷◌, ◌++◌, ℕ, ◌+◌, ◌*◌, ◌≤◌, leb, length};
 ghost use Rattle.model.specs.Limits.{flow_count};
 ghost use Rattle.model.specs.State.{sessions_of};

@@ -1,5 +1,7 @@
 // The linkage engine by value, for who keeps an engine and lends nothing: each call gives its answer and
 // the engine after it. Who keeps the engine's arrays takes `step`.
+#![tactic(auto)]
+
 ghost use Rattle.std.specs.Prelude.{◌≡◌};
 ghost use Rattle.model.specs.Calls.{answer, after, verdict, shown_by};
 

@@ -1,6 +1,8 @@
 // The call that changes which database forwards to which. It is checked, carried out in place on lent
 // arrays and answered in one function, which promises what the call's definition in `model` says. A
 // session has here its number among those of both products.
+#![tactic(auto)]
+
 ghost use Rattle.std.specs.Prelude.{◌≡◌, List, ℕ};
 ghost use Rattle.model.specs.State.{tables_of, directory_of, any_flow};
 ghost use Rattle.model.specs.Calls.{done, forward};

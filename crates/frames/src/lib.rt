@@ -1,5 +1,7 @@
 // Frames: a whole run as a stream of bytes. `decoding` reads lines, `encoding` writes answers; what a
 // caller needs of them stands here too.
+#![tactic(auto)]
+
 mod stream;
 mod whole;
 

@@ -1,4 +1,6 @@
 // What a caller in C is given back of an answer, and the session that his numbers name.
+#![tactic(auto)]
+
 ghost use Rattle.std.specs.Prelude.{◌≡◌};
 ghost use Rattle.model.specs.State.{session_at};
 ghost use Rattle.model.specs.Calls.{returned, verdict_of};

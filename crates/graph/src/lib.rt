@@ -1,6 +1,8 @@
 // The audit flow graph of source document 000, section 3.2: its three steps, in its order. Of a graph
 // the vertices are kept, as sets: databases, then roles, then overlapping roles. Each step's result is
 // what document 01 defines, for any arguments.
+#![tactic(auto)]
+
 ghost use Rattle.std.specs.Prelude.{◌≡◌, ◌<◌};
 ghost use Rattle.rows.specs.Reach.{reach};
 ghost use Rattle.tables.specs.Tables.{role_count, database_count, readers_of};

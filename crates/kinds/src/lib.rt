@@ -1,4 +1,6 @@
 // The call of a kind with its fields.
+#![tactic(auto)]
+
 ghost use Rattle.std.specs.Prelude.{◌≡◌};
 ghost use Rattle.protocol.specs.Lines.{called_by};
 ghost use Rattle.kinds.specs.Kinds.{field_in, product_of};

@@ -1,6 +1,8 @@
 // Tries the last version, which no list of frames reaches in a test's time: engines are made by value
 // just below it and at it, and one of the old width is carried over at its own last version. Each call
 // gives its answer line.
+#![tactic(auto)]
+
 use carrying::{OldDirectory, OldEngine, OldSessions, OldVersion};
 use engine::{
     Answer, Changed, Constraint, Directory, Engine, Product, Sessions, Shown, Verdict, Version,

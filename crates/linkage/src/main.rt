@@ -2,6 +2,8 @@
 // could not be read or written. The engine's arrays are main's own and are lent for each piece of input.
 // The counts that come back from `frames` are cut to the lengths of the buffers, so that safety rests on
 // none of its contracts.
+#![tactic(auto)]
+
 use frames::Line;
 use model::{Engine, Version};
 use taking::{BUFFER, Held};

@@ -4,6 +4,8 @@
 // answer's values where the caller wants them; where the call is refused these stay as they were.
 //
 // Every function answers for any contents of the arrays and any numbers.
+#![tactic(auto)]
+
 mod asks;
 mod bytes;
 mod changes;

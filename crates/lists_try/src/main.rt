@@ -1,6 +1,8 @@
 // Runs stored lists of frames. Each argument names a file, which goes to a fresh engine in pieces
 // that cut lines anywhere; the answers go to standard output. The counts that come back are what is
 // tried here, so nothing rests on them.
+#![tactic(auto)]
+
 ghost use Rattle.io.specs.Counts.{IsPrefixLen};
 
 use frames::{LONGEST, Line};

@@ -1,5 +1,7 @@
 // What an answer's line is made of, and where it goes: a digit, whether a line has room in the lent
 // buffer, and what the end of input writes there.
+#![tactic(auto)]
+
 ghost use Rattle.std.specs.Prelude.{◌≡◌, ◌/◌, ◌%◌};
 ghost use Rattle.protocol.specs.Digits.{glyph};
 ghost use Rattle.output.specs.Output.{room_at, ending, end_answer, end_written};

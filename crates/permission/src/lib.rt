@@ -1,5 +1,7 @@
 // The calls that change which role may read which database. Each is checked, carried out in place on
 // lent arrays and answered in one function, which promises what the call's definition in `model` says.
+#![tactic(auto)]
+
 ghost use Rattle.std.specs.Prelude.{◌≡◌, false, List, ℕ};
 ghost use Rattle.rows.specs.Rows.{there};
 ghost use Rattle.tables.specs.Tables.{user_count, held_by};

@@ -2,6 +2,8 @@
 // reads frames from standard input, as `linkage` does, and writes the session as they leave it to
 // standard output, as SVG. Answers are not written. What can't be read or written is said on standard
 // error.
+#![tactic(auto)]
+
 mod asked;
 mod flows;
 mod legend;

@@ -1,5 +1,7 @@
 // Pieces of input: where the next line feed stands, and what has to be kept of a piece whose last line
 // is not whole.
+#![tactic(auto)]
+
 ghost use Rattle.std.specs.Prelude.{◌≡◌, ◌++◌, ◌+◌, ◌≤◌, min, length, drop};
 ghost use Rattle.protocol.specs.Run.{feed_at, kept_of};
 ghost use Rattle.pieces.specs.Pieces.{between};

@@ -1,6 +1,8 @@
 // Frames in definitions: what a line is read as, how an answer is written, what a whole run writes.
 // The code is in `decoding` (a line to its call), `encoding` (an answer to its line) and `frames` (a
 // run as a stream), with contracts by these definitions. Here are only the widths that they share.
+#![tactic(auto)]
+
 use model::Engine;
 
 // How many digits a version and a role set have.

@@ -1,4 +1,6 @@
 // A read: checked and answered. Its session has here its number among those of both products.
+#![tactic(auto)]
+
 ghost use Rattle.std.specs.Prelude.{◌≡◌, List, ℕ, ◌<◌, ◌+◌, ◌*◌, get_or};
 ghost use Rattle.tables.specs.Tables.{role_count};
 ghost use Rattle.model.specs.Limits.{flow_count};

@@ -1,6 +1,8 @@
 // Goes over a recorded run: it is read from standard input, and one line goes to standard output, the
 // number of the first pair whose answers differ. What can't be read or written is said on standard error.
 // The line's length is cut to its buffer, so that safety rests on no contract of `trace`.
+#![tactic(auto)]
+
 ghost use Rattle.io.specs.Counts.{IsPrefixLen};
 
 use libc::STDIN_FILENO;

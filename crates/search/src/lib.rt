@@ -1,6 +1,8 @@
 // The search for conflicting roles, which a query answers and an addition looks at.
 //
 // Every public function answers for any numbers.
+#![tactic(auto)]
+
 ghost use Rattle.std.specs.Prelude.{◌≡◌};
 ghost use Rattle.tables.specs.Tables.{role_count};
 ghost use Rattle.model.specs.State.{outside};

@@ -1,6 +1,8 @@
 // What is asked of sessions, but for new flows, which are in `addition`. Each call is checked, carried
 // out in place on lent arrays and answered in one function, which promises what the call's definition in
 // `model` says. A session has here its number among those of both products, which `session_at` gives.
+#![tactic(auto)]
+
 ghost use Rattle.std.specs.Prelude.{◌≡◌, List, ℕ};
 ghost use Rattle.model.specs.State.{session_at, tables_of, sessions_of};
 ghost use Rattle.model.specs.Calls.{done, open_session, conflicting, show};

@@ -1,5 +1,7 @@
 // Any call, on the arrays of a whole engine. The calls stand in crates by what they are about:
 // `assignment`, `permission`, `mandates`, `forwarding`, `sessions`, `addition`, `reading`.
+#![tactic(auto)]
+
 ghost use Rattle.std.specs.Prelude.{◌≡◌, List, ℕ};
 ghost use Rattle.model.specs.Limits.{last_version};
 ghost use Rattle.model.specs.State.{tables_of, directory_of, sessions_of, engine_of};

@@ -4,6 +4,8 @@
 // What is read no contract can say. What is promised is how one turn follows another: the rest of what was
 // read is fed, or what has to be kept of it stands before what is read behind it. Each turn leaves fewer,
 // so that a program's loop ends.
+#![tactic(auto)]
+
 ghost use Rattle.std.specs.Prelude.{◌-◌, ◌≡◌};
 ghost use Rattle.pieces.specs.Pieces.{between};
 ghost use Rattle.taking.specs.Taking.{start, place_behind, under_way, More, Next};

@@ -2,6 +2,8 @@
 // counts a new flow in; here none is.
 //
 // Every public function answers for any numbers: a session past the last one has no flows.
+#![tactic(auto)]
+
 ghost use Rattle.std.specs.Prelude.{◌≡◌, List, ℕ};
 ghost use Rattle.model.specs.State.{tables_of, sessions_of};
 ghost use Rattle.today.specs.Today.{flows_today, conflicts_today};

@@ -1,6 +1,8 @@
 // Tries going over recorded runs, and writes a line for each. Each argument names a file, which is read
 // whole. Then come runs about as long as one may be, which are made here of pairs of an empty line and its
 // answer.
+#![tactic(auto)]
+
 use libc::STDOUT_FILENO;
 use trace::LIMIT;
 

@@ -1,5 +1,7 @@
 // The engine by value where no array is changed in place: a fresh engine, and a constraint that is shown.
 // A session has here its number among those of both products.
+#![tactic(auto)]
+
 ghost use Rattle.std.specs.Prelude.{◌≡◌, ◌<◌, replicate};
 ghost use Rattle.model.specs.Limits.{flow_count};
 ghost use Rattle.model.specs.State.{all_sessions, fresh, filled, roleset_at};

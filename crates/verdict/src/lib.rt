@@ -1,5 +1,7 @@
 // What a read comes to: the tests of its last rows as the number that is answered, and a number as the
 // verdict it stands for.
+#![tactic(auto)]
+
 ghost use Rattle.std.specs.Prelude.{◌≡◌, cond};
 ghost use Rattle.model.specs.Calls.{returned, bar};
 ghost use Rattle.verdict.specs.Numbers.{verdict_by};
