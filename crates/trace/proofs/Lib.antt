@@ -3,4 +3,5 @@ mod Lines
 mod Going
 mod PrintedLines
 mod Pairs
+mod Ending
 pub mod Recorded
