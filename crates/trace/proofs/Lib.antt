@@ -1,6 +1,6 @@
 mod Finding
 mod Lines
 mod Going
-mod Printed
+mod PrintedLines
 mod Pairs
 pub mod Recorded
