@@ -57,7 +57,12 @@ fn show(rt: HostRuntime, bytes: &[u8]) {
     let text = line.bytes;
     let end = streams::within(line.len, &text);
     let mut output = rt.stdout();
-    streams::write_or_say(rt, &mut output, &text[..end], b"replay: the number was not written");
+    streams::write_or_say(
+        rt,
+        &mut output,
+        &text[..end],
+        b"replay: the number was not written",
+    );
 }
 
 // Reads a recorded run into a buffer and goes over it.
