@@ -4,5 +4,5 @@ use mathlib.Core.Path.{sym}
 use lib.ListN.{length-replicate}
 use Rattle.traces_try.proofs.main.Goals as goal
 
-pub slice_bounds-try_all-end : goal.slice_bounds-try_all-file
+pub slice_bounds-try_all-end : goal.slice_bounds-try_all-end
 slice_bounds-try_all-end c = sym (length-replicate {0} {A = ℕ} 1048577 0)
