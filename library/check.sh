@@ -11,7 +11,7 @@
 #   - calls every function on engines of random contents, with the sanitizers of
 #     the C compiler.
 # Exits 1 at a difference.  From the root of the repository:
-#     rt check linkage && rt staticlib linkage_c
+#     tools/build.sh linkage linkage_c
 #     library/check.sh target/bin/linkage
 # LINKAGE_LIB names another folder for the archive, SEED and ENGINES (2000) say
 # which random engines.  It needs cc and cargo, and nothing from a network.

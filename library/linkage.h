@@ -1,6 +1,6 @@
 /*
  * The linkage engine for C (C99) and C++.  The archive to link is
- * liblinkage_c.a, for x86-64, made by `rt staticlib linkage_c`:
+ * liblinkage_c.a, for x86-64, made by `tools/build.sh linkage_c`:
  *
  *     cc -Ilibrary program.c target/staticlib/liblinkage_c.a
  *

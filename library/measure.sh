@@ -6,7 +6,7 @@
 # turn, ROUNDS rounds (25), over the reads of a list of LINES lines (1000000) that
 # reference/generate.py makes.  SEED gives another list, LINKAGE_LIB names another
 # folder for the archive.  From the root of the repository:
-#     rt staticlib linkage_c
+#     tools/build.sh linkage_c
 #     library/measure.sh
 set -u
 if [ $# -gt 1 ]; then

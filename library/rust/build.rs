@@ -1,4 +1,4 @@
-//! Links the archive `liblinkage_c.a` that `rt staticlib linkage_c` makes: from the folder that the
+//! Links the archive `liblinkage_c.a` that `tools/build.sh linkage_c` makes: from the folder that the
 //! environment variable `LINKAGE_LIB` names, a full path, or from the repository's `target/staticlib`.
 use std::env;
 use std::path::PathBuf;
@@ -12,7 +12,7 @@ fn main() {
     let archive = folder.join("liblinkage_c.a");
     if !archive.is_file() {
         panic!(
-            "no {}: `rt staticlib linkage_c` makes it",
+            "no {}: `tools/build.sh linkage_c` makes it",
             archive.display()
         );
     }

@@ -3,27 +3,26 @@
 use Prim.Native.Nat.{ℕ, ◌+◌, ◌*◌, ◌≤◌, ◌<◌}
 use mathlib.Core.Path.{◌≡◌, refl}
 use mathlib.Core.Bool.{true, false}
-use mathlib.Core.List.{[], ◌∷◌}
 use native.Mathlib.Omega.{arith}
 use lib.Dec.{ltb}
 use borrow.Author.Tests.{lt-ltb, le-ltb}
-use denote.Enum.Declared.{tag_of}
-use types.Run.{OneOf, miss}
-use Rattle.model.specs.contracts.calls.Answer.{the_type}
 use Rattle.model.specs.declared.calls.Answer.{Answer}
 use Rattle.model.specs.declared.calls.Answer.TheVariants.{Version, Roles, Flow, Granted, Constraint as Answer-as-Constraint, Refused}
 use Rattle.model.specs.Limits.{flow_count}
 use Rattle.model.specs.State.{all_sessions, place_count, place}
 use Rattle.answers.specs.Answers.{has_place, shown_place}
 
--- an answer that shows none, by the tags that the code's test leaves
-none_shown : (a : Answer) → OneOf (0 ∷ 1 ∷ 2 ∷ 3 ∷ 5 ∷ []) (tag_of the_type a) → (0 ≡ shown_place a) × (true ≡ has_place a)
+-- an answer that shows none, which is what the code's test leaves
+abbrev pub IsNoConstraint : Answer → Type 0
+IsNoConstraint a = (s f : ℕ) → a ≡ Answer-as-Constraint s f → ⊥
+
+none_shown : (a : Answer) → IsNoConstraint a → (0 ≡ shown_place a) × (true ≡ has_place a)
 unfolding shown_place has_place
 none_shown (Version v) h = (refl, refl)
 none_shown (Roles m) h = (refl, refl)
 none_shown (Flow n k v) h = (refl, refl)
 none_shown Granted h = (refl, refl)
-none_shown (Answer-as-Constraint s f) h = absurd (miss (0 ∷ 1 ∷ 2 ∷ 3 ∷ 5 ∷ []) 4 tt h)
+none_shown (Answer-as-Constraint s f) h = absurd (h s f refl)
 none_shown (Refused why) h = (refl, refl)
 
 -- ---- its place
@@ -40,12 +39,12 @@ pub shown_flow : (a : Answer) (s f : ℕ) → a ≡ Answer-as-Constraint s f →
 unfolding shown_place
 shown_flow a s f e l m = (rw (e, lt-ltb s all_sessions l, le-ltb f flow_count m), omega arith)
 
-pub shown_nowhere : (a : Answer) → OneOf (0 ∷ 1 ∷ 2 ∷ 3 ∷ 5 ∷ []) (tag_of the_type a) → (0 ≡ shown_place a) × (0 < place_count)
+pub shown_nowhere : (a : Answer) → IsNoConstraint a → (0 ≡ shown_place a) × (0 < place_count)
 shown_nowhere a h = ((none_shown a h).0, omega arith)
 
 -- ---- whether it has one
 
-pub place_none : (a : Answer) → OneOf (0 ∷ 1 ∷ 2 ∷ 3 ∷ 5 ∷ []) (tag_of the_type a) → true ≡ has_place a
+pub place_none : (a : Answer) → IsNoConstraint a → true ≡ has_place a
 place_none a h = (none_shown a h).1
 
 pub place_above : (a : Answer) (s f : ℕ) → a ≡ Answer-as-Constraint s f → all_sessions ≤ s → false ≡ has_place a

@@ -10,6 +10,7 @@ ghost use Rattle.answers.specs.Answers.{has_place, shown_place};
 use model::{Answer, Engine, Refusal};
 
 // The number of a refusal.
+#[tactic(auto, unfolding(model::specs::Calls::number_of))]
 fn number(why: Refusal) -> u64
     ensures { result ≡ number_of why }
 {
@@ -33,6 +34,7 @@ fn number(why: Refusal) -> u64
 }
 
 // 0 for what is accepted, else the number refused.
+#[tactic(auto, unfolding(model::specs::Calls::returned, model::specs::Calls::verdict_of))]
 pub fn returned(a: Answer) -> u64
     ensures { result ≡ returned (verdict_of a) }
 {

@@ -269,27 +269,27 @@ keyed_digits n (j ∷ i ∷ ks) k t h =
     ⊎_elim (λ e. rw e (eqb-true (rest_digits j) n p.0)) (λ l. keyed_digits n (i ∷ ks) k p.1 l) h
 
 -- a kind with none of the other shapes has two fields
-pub two_digits : (k : ℕ) → k < 17 → (k ≡ 0 → ⊥) → (OneOf (6 ∷ 11 ∷ []) k → ⊥) → (OneOf (9 ∷ 14 ∷ []) k → ⊥) → (OneOf (8 ∷ 13 ∷ []) k → ⊥) → rest_digits k ≡ 4
+pub two_digits : (k : ℕ) → k < 17 → 0 < k → (k ≡ 6 → ⊥) → (k ≡ 11 → ⊥) → (k ≡ 9 → ⊥) → (k ≡ 14 → ⊥) → (k ≡ 8 → ⊥) → (k ≡ 13 → ⊥) → rest_digits k ≡ 4
 unfolding rest_digits
 two_digits =
-    by_kind (λ k. (k ≡ 0 → ⊥) → (OneOf (6 ∷ 11 ∷ []) k → ⊥) → (OneOf (9 ∷ 14 ∷ []) k → ⊥) → (OneOf (8 ∷ 13 ∷ []) k → ⊥) → rest_digits k ≡ 4)
-    (λ no one four set. absurd (no refl))
-    (λ no one four set. refl)
-    (λ no one four set. refl)
-    (λ no one four set. refl)
-    (λ no one four set. refl)
-    (λ no one four set. refl)
-    (λ no one four set. absurd (one (inl refl)))
-    (λ no one four set. refl)
-    (λ no one four set. absurd (set (inl refl)))
-    (λ no one four set. absurd (four (inl refl)))
-    (λ no one four set. refl)
-    (λ no one four set. absurd (one (inr refl)))
-    (λ no one four set. refl)
-    (λ no one four set. absurd (set (inr refl)))
-    (λ no one four set. absurd (four (inr refl)))
-    (λ no one four set. refl)
-    (λ no one four set. refl)
+    by_kind (λ k. 0 < k → (k ≡ 6 → ⊥) → (k ≡ 11 → ⊥) → (k ≡ 9 → ⊥) → (k ≡ 14 → ⊥) → (k ≡ 8 → ⊥) → (k ≡ 13 → ⊥) → rest_digits k ≡ 4)
+    (λ l a b c d e f. absurd (omega arith))
+    (λ l a b c d e f. refl)
+    (λ l a b c d e f. refl)
+    (λ l a b c d e f. refl)
+    (λ l a b c d e f. refl)
+    (λ l a b c d e f. refl)
+    (λ l a b c d e f. absurd (a refl))
+    (λ l a b c d e f. refl)
+    (λ l a b c d e f. absurd (e refl))
+    (λ l a b c d e f. absurd (c refl))
+    (λ l a b c d e f. refl)
+    (λ l a b c d e f. absurd (b refl))
+    (λ l a b c d e f. refl)
+    (λ l a b c d e f. absurd (f refl))
+    (λ l a b c d e f. absurd (d refl))
+    (λ l a b c d e f. refl)
+    (λ l a b c d e f. refl)
 
 -- ---- a frame from the fields that were read
 

@@ -12,9 +12,6 @@ use lib.Dec.{leb, ltb}
 use lib.ListN.{length, get_or, take, drop, set, replicate, length-append, length-take, length-drop, length-set, take-append-drop}
 use lib.Seq.{get_or-take, get_or-drop, sets, length-take-le, take_at, drop_at, take-suc, drop-drop, drop-length, set_at}
 use borrow.Author.Tests.{le-leb, lt-leb, ltb-true}
-use denote.Enum.Declared.{tag_of}
-use types.Run.{OneOf, miss}
-use Rattle.model.specs.contracts.calls.Answer.{the_type}
 use Rattle.sets.proofs.Laws.{and_both}
 use Rattle.model.specs.declared.Constraint.{Constraint}
 use Rattle.model.specs.declared.Sessions.{Sessions}
@@ -166,14 +163,14 @@ pub writable_sets : (a : Answer) (s f : ℕ) → a ≡ Answer-as-Constraint s f 
 unfolding shown_sets
 writable_sets a s f e = rw e
 
--- by the tags that the code's test leaves
-pub writable_none : (a : Answer) → OneOf (0 ∷ 1 ∷ 2 ∷ 3 ∷ 5 ∷ []) (tag_of the_type a) → true ≡ leb (shown_sets a) flow_count
+-- by what the code's test leaves
+pub writable_none : (a : Answer) → ((s f : ℕ) → a ≡ Answer-as-Constraint s f → ⊥) → true ≡ leb (shown_sets a) flow_count
 unfolding shown_sets
 writable_none (Version v) h = refl
 writable_none (Roles m) h = refl
 writable_none (Flow n k v) h = refl
 writable_none Granted h = refl
-writable_none (Answer-as-Constraint s f) h = absurd (miss (0 ∷ 1 ∷ 2 ∷ 3 ∷ 5 ∷ []) 4 tt h)
+writable_none (Answer-as-Constraint s f) h = absurd (h s f refl)
 writable_none (Refused why) h = refl
 
 -- a flow that is shown, where no more role sets are shown than there are

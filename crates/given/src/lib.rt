@@ -101,6 +101,7 @@ pub fn tell(a: Answer, told: &mut Version) -> u64
 }
 
 // The product that a number stands for.
+#[tactic(auto, using(crate::proofs::Products::server_of, crate::proofs::Products::bank_of))]
 fn product_of(product: usize) -> Product
     ensures { result ≡ product_of product }
 {
@@ -112,6 +113,7 @@ fn product_of(product: usize) -> Product
 }
 
 // The session, or one above its limit where there is no such product.
+#[tactic(auto, using(crate::proofs::Products::one_such, crate::proofs::Products::none_such))]
 fn session_of(product: usize, session: usize) -> usize
     ensures { result ≡ session_of product session }
 {

@@ -1,10 +1,10 @@
 -- Laws of kinds: which numbers are none, and what call an arm of a `match` on the kind has.
 -- Assumes nothing.
-use Prim.Native.Nat.{ℕ, zero, suc, ◌≤◌, ◌<◌}
+use Prim.Native.Nat.{ℕ, ◌≤◌, ◌<◌}
 use mathlib.Core.Path.{◌≡◌, refl}
 use mathlib.Core.Bool.{false}
 use mathlib.Core.List.{[], ◌∷◌}
-use mathlib.Core.Logic.{◌⊎◌, inl, inr, ⊎_elim}
+use mathlib.Core.Logic.{◌⊎◌, ⊎_elim}
 use native.Mathlib.Omega.{arith}
 use lib.Dec.{eqb}
 use types.Run.{OneOf}
@@ -43,23 +43,7 @@ unknown k field set h =
       no 16 (omega arith),
     )
 
--- ---- what an arm of a `match` on the kind knows
-
--- none of the numbers from 1 on to n is it
-abbrev pub NoneOf : ℕ → ℕ → Type 0
-NoneOf k zero = Unit
-NoneOf k (suc n) = NoneOf k n × (k ≡ suc n → ⊥)
-
-past : (k n : ℕ) → (k ≡ 0 → ⊥) → NoneOf k n → n < k
-past k zero z w = omega (arith, z)
-past k (suc n) z w = omega (arith, past k n z w.0, w.1)
-
--- no number up to 16 is left, where the kinds of the two products go in pairs
-pub past_products : (k : ℕ) → (k ≡ 0 → ⊥) → NoneOf k 5 → (OneOf (6 ∷ 11 ∷ []) k → ⊥) → (OneOf (7 ∷ 12 ∷ []) k → ⊥) → (OneOf (8 ∷ 13 ∷ []) k → ⊥) → (OneOf (9 ∷ 14 ∷ []) k → ⊥)
-    → (OneOf (10 ∷ 15 ∷ []) k → ⊥) → (k ≡ 16 → ⊥) → 16 < k
-past_products k z w a b c d e m =
-    past k 16 z
-    (((((((((((w, λ h. a (inl h)), λ h. b (inl h)), λ h. c (inl h)), λ h. d (inl h)), λ h. e (inl h)), λ h. a (inr h)), λ h. b (inr h)), λ h. c (inr h)), λ h. d (inr h)), λ h. e (inr h)), m)
+-- ---- what call an arm of a `match` on the kind has
 
 -- the call of one of two kinds, one for each product
 module _ (k : ℕ) {p : Product} (a b c d set : ℕ) (of : p ≡ product_of k) where

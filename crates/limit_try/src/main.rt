@@ -8,16 +8,16 @@ use engine::{
     Answer, Changed, Constraint, Directory, Engine, Product, Sessions, Shown, Verdict, Version,
     add_flow, assign, forward, fresh, mandate, open_session, permit, read, revoke, show, withdraw,
 };
-use libc::STDOUT_FILENO;
 use output::Line;
 use protocol::LONGEST;
+use std::io::Print;
 use tables::Tables;
 
-fn main() {
-    below(engine_at(Engine::LAST_VERSION - 1));
-    last(engine_at(Engine::LAST_VERSION));
-    moved(carrying::carry_over(old()));
-    versions();
+fn main(rt: HostRuntime) {
+    below(rt, engine_at(Engine::LAST_VERSION - 1));
+    last(rt, engine_at(Engine::LAST_VERSION));
+    moved(rt, carrying::carry_over(old()));
+    versions(rt);
 }
 
 // User 1 holds role 0, which may read database 0. Nobody holds role 9, which may read database 1.
@@ -46,43 +46,43 @@ fn engine_at(version: Version) -> Engine {
 }
 
 // One version is left: it is given once, to an assignment or to the holders of a role.
-fn below(e: Engine) {
-    said(assign(e, 1, 0));
-    said(permit(e, 9, 2));
-    said(revoke(e, 9, 1));
-    let permitted = said(permit(e, 0, 1));
-    said(revoke(permitted, 0, 1));
-    let revoked = said(revoke(e, 0, 0));
-    said(permit(revoked, 0, 0));
-    let assigned = said(assign(e, 2, 0));
-    said(assign(assigned, 2, 1));
-    said(withdraw(assigned, 2, 0));
+fn below(rt: HostRuntime, e: Engine) {
+    said(rt, assign(e, 1, 0));
+    said(rt, permit(e, 9, 2));
+    said(rt, revoke(e, 9, 1));
+    let permitted = said(rt, permit(e, 0, 1));
+    said(rt, revoke(permitted, 0, 1));
+    let revoked = said(rt, revoke(e, 0, 0));
+    said(rt, permit(revoked, 0, 0));
+    let assigned = said(rt, assign(e, 2, 0));
+    said(rt, assign(assigned, 2, 1));
+    said(rt, withdraw(assigned, 2, 0));
 }
 
 // None is left.
-fn last(e: Engine) {
-    said(assign(e, 1, 1));
-    said(assign(e, 1, 0));
-    said(assign(e, 1, 64));
-    said(permit(e, 0, 1));
-    said(permit(e, 0, 0));
-    said(revoke(e, 0, 0));
-    said(revoke(e, 0, 1));
-    said(permit(e, 9, 2));
-    said(revoke(e, 9, 1));
-    let mandated = said(mandate(e, 0, 0));
-    said(revoke(mandated, 0, 0));
-    let unheld = said(withdraw(e, 1, 0));
-    said(permit(unheld, 0, 1));
-    said(revoke(unheld, 0, 0));
-    let chained = said(forward(e, 0, 1));
-    let opened = said(open_session(chained, Product::Server, 0));
-    let added = said(add_flow(opened, Product::Server, 0, 0, 0));
-    shown(show(added, Product::Server, 0, 0));
-    answered(read(added, Product::Server, 1, 0, 0, 0));
-    let bank = said(open_session(added, Product::TermBank, 15));
-    let both = said(add_flow(bank, Product::TermBank, 15, 0, 0));
-    answered(read(both, Product::TermBank, 1, 15, 0, 0));
+fn last(rt: HostRuntime, e: Engine) {
+    said(rt, assign(e, 1, 1));
+    said(rt, assign(e, 1, 0));
+    said(rt, assign(e, 1, 64));
+    said(rt, permit(e, 0, 1));
+    said(rt, permit(e, 0, 0));
+    said(rt, revoke(e, 0, 0));
+    said(rt, revoke(e, 0, 1));
+    said(rt, permit(e, 9, 2));
+    said(rt, revoke(e, 9, 1));
+    let mandated = said(rt, mandate(e, 0, 0));
+    said(rt, revoke(mandated, 0, 0));
+    let unheld = said(rt, withdraw(e, 1, 0));
+    said(rt, permit(unheld, 0, 1));
+    said(rt, revoke(unheld, 0, 0));
+    let chained = said(rt, forward(e, 0, 1));
+    let opened = said(rt, open_session(chained, Product::Server, 0));
+    let added = said(rt, add_flow(opened, Product::Server, 0, 0, 0));
+    shown(rt, show(added, Product::Server, 0, 0));
+    answered(rt, read(added, Product::Server, 1, 0, 0, 0));
+    let bank = said(rt, open_session(added, Product::TermBank, 15));
+    let both = said(rt, add_flow(bank, Product::TermBank, 15, 0, 0));
+    answered(rt, read(both, Product::TermBank, 1, 15, 0, 0));
 }
 
 // Users 1, 2 and 254 hold role 0, which may read database 0. The server's session 0 has a flow of the old
@@ -136,47 +136,47 @@ fn old_sessions() -> OldSessions {
 }
 
 // It answers as before, and then goes on past the old last version.
-fn moved(e: Engine) {
-    shown(show(e, Product::Server, 0, 0));
-    shown(show(e, Product::TermBank, 15, 0));
-    reads_of_both(e);
-    let assigned = said(assign(e, 1, 1));
-    reads_of_both(assigned);
-    let added = said(add_flow(assigned, Product::Server, 0, 0, 0));
-    answered(read(added, Product::Server, 1, 0, 1, 0));
-    let permitted = said(permit(added, 0, 1));
-    answered(read(permitted, Product::Server, 1, 0, 1, 0));
-    answered(read(permitted, Product::Server, 254, 0, 0, 0));
-    shown(show(permitted, Product::Server, 0, 1));
+fn moved(rt: HostRuntime, e: Engine) {
+    shown(rt, show(e, Product::Server, 0, 0));
+    shown(rt, show(e, Product::TermBank, 15, 0));
+    reads_of_both(rt, e);
+    let assigned = said(rt, assign(e, 1, 1));
+    reads_of_both(rt, assigned);
+    let added = said(rt, add_flow(assigned, Product::Server, 0, 0, 0));
+    answered(rt, read(added, Product::Server, 1, 0, 1, 0));
+    let permitted = said(rt, permit(added, 0, 1));
+    answered(rt, read(permitted, Product::Server, 1, 0, 1, 0));
+    answered(rt, read(permitted, Product::Server, 254, 0, 0, 0));
+    shown(rt, show(permitted, Product::Server, 0, 1));
 }
 
-fn reads_of_both(e: Engine) {
-    answered(read(e, Product::Server, 1, 0, 0, 0));
-    answered(read(e, Product::Server, 2, 0, 0, 0));
-    answered(read(e, Product::Server, 254, 0, 0, 0));
-    answered(read(e, Product::TermBank, 1, 15, 0, 0));
-    answered(read(e, Product::TermBank, 2, 15, 0, 0));
-    answered(read(e, Product::TermBank, 254, 15, 0, 0));
+fn reads_of_both(rt: HostRuntime, e: Engine) {
+    answered(rt, read(e, Product::Server, 1, 0, 0, 0));
+    answered(rt, read(e, Product::Server, 2, 0, 0, 0));
+    answered(rt, read(e, Product::Server, 254, 0, 0, 0));
+    answered(rt, read(e, Product::TermBank, 1, 15, 0, 0));
+    answered(rt, read(e, Product::TermBank, 2, 15, 0, 0));
+    answered(rt, read(e, Product::TermBank, 254, 15, 0, 0));
 }
 
 // Versions above 65535: a read is granted where the user's is not above the flow's, and changed where it
 // is. But where both are the same, their last 16 bits tell the other way round, or in the last two their
 // 32 bits with a sign.
-fn versions() {
-    reading(65536, 65535);
-    reading(65535, 65536);
-    reading(65536, 65536);
-    reading(131072, 65537);
-    reading(65537, 131072);
-    reading(Engine::LAST_VERSION, Engine::LAST_VERSION);
-    reading(Engine::LAST_VERSION - 65535, 65535);
-    reading(65535, Engine::LAST_VERSION - 65535);
-    reading(2147483648, 2147483647);
-    reading(2147483647, 2147483648);
+fn versions(rt: HostRuntime) {
+    reading(rt, 65536, 65535);
+    reading(rt, 65535, 65536);
+    reading(rt, 65536, 65536);
+    reading(rt, 131072, 65537);
+    reading(rt, 65537, 131072);
+    reading(rt, Engine::LAST_VERSION, Engine::LAST_VERSION);
+    reading(rt, Engine::LAST_VERSION - 65535, 65535);
+    reading(rt, 65535, Engine::LAST_VERSION - 65535);
+    reading(rt, 2147483648, 2147483647);
+    reading(rt, 2147483647, 2147483648);
 }
 
 // User 1 reads a flow of one version with another of its own.
-fn reading(flow: Version, user: Version) {
+fn reading(rt: HostRuntime, flow: Version, user: Version) {
     let mut e = engine_at(user);
     let directory = e.directory;
     let opened = open_session(e, Product::Server, 0);
@@ -189,49 +189,49 @@ fn reading(flow: Version, user: Version) {
         directory,
         sessions: kept,
     };
-    answered(read(engine, Product::Server, 1, 0, 0, 0));
+    answered(rt, read(engine, Product::Server, 1, 0, 0, 0));
 }
 
 // Gives the engine after a call, and writes the call's answer.
-fn said(x: Changed) -> Engine {
+fn said(rt: HostRuntime, x: Changed) -> Engine {
     let a = x.answer;
-    unshown(a);
+    unshown(rt, a);
     x.engine
 }
 
-fn answered(v: Verdict) {
+fn answered(rt: HostRuntime, v: Verdict) {
     match v {
-        Verdict::Granted => unshown(Answer::Granted),
-        Verdict::Refused(why) => unshown(Answer::Refused(why)),
+        Verdict::Granted => unshown(rt, Answer::Granted),
+        Verdict::Refused(why) => unshown(rt, Answer::Refused(why)),
     }
 }
 
 // An answer that shows no constraint.
-fn unshown(a: Answer) {
+fn unshown(rt: HostRuntime, a: Answer) {
     let none = Constraint {
         version: 0,
         deny: 0,
         roles: [0; Engine::FLOWS],
     };
-    line(a, none);
+    line(rt, a, none);
 }
 
-fn shown(x: Shown) {
+fn shown(rt: HostRuntime, x: Shown) {
     let a = x.answer;
-    line(a, x.constraint);
+    line(rt, a, x.constraint);
 }
 
-fn line(a: Answer, c: Constraint) {
+fn line(rt: HostRuntime, a: Answer, c: Constraint) {
     let mut out = [0u8; LONGEST];
     let written = encoding::answer_line(a, c, &mut out);
     if let Line::Written(n) = written {
-        write_first(&out, n);
+        write_first(rt, &out, n);
     }
 }
 
-// Writes the first n bytes.
-fn write_first(bytes: &[u8], n: usize) {
+// Writes the first n bytes. Where they can't be written there is nobody to tell.
+fn write_first(rt: HostRuntime, bytes: &[u8], n: usize) {
     if n <= bytes.len() {
-        io::write_all(STDOUT_FILENO, &bytes[..n]);
+        let _ = rt.write_all(&bytes[..n]);
     }
 }

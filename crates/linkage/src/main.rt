@@ -20,38 +20,41 @@ struct Shown {
 
 // Writes the first n bytes, and counts the lines that are written whole. Where not all are written it
 // says so.
-fn show(bytes: &[u8], n: usize, lines: u64) -> Shown {
+fn show(rt: HostRuntime, bytes: &[u8], n: usize, lines: u64) -> Shown {
     let end = streams::within(n, bytes);
     let answers = &bytes[..end];
-    let written = streams::write_all(answers);
-    let lines = streams::lines_and(lines, &answers[..written]);
-    if written < end {
+    let mut output = rt.stdout();
+    let written = streams::write_all(rt, &mut output, answers);
+    let lines = streams::lines_and(lines, &answers[..written.end]);
+    if let Some(failure) = written.failure {
         let mut text = [0u8; SENTENCE];
         streams::say_after(
+            rt,
             &mut text,
             b"linkage: answers after line ",
             lines,
             b" were not written",
+            failure,
         );
     }
     Shown {
         lines,
-        is_open: end <= written,
+        is_open: written.failure.is_none(),
     }
 }
 
 // Writes the answer to a last line that has no line feed.
-fn end(held: Held, output: &mut [u8; BUFFER]) {
+fn end(rt: HostRuntime, held: Held, output: &mut [u8; BUFFER]) {
     if !held.is_open {
         return;
     }
     let line = frames::finish(held.filled, output);
     if let Line::Written(n) = line {
-        show(output, n, held.lines);
+        show(rt, output, n, held.lines);
     }
 }
 
-fn main() {
+fn main(rt: HostRuntime) {
     let mut roles = [0u64; Engine::USERS];
     let mut readers = [0u64; Engine::DATABASES];
     let mut forwards = [0u64; Engine::DATABASES];
@@ -67,6 +70,7 @@ fn main() {
     let mut rolesets = [0u64; Engine::ROLE_SETS];
     let mut input = [0u8; BUFFER];
     let mut output = [0u8; BUFFER];
+    let mut source = rt.stdin();
     let mut held = taking::nothing();
     while 0 < held.turns {
         let rest = taking::part(&input, held.from, held.filled);
@@ -87,8 +91,10 @@ fn main() {
             rest,
             &mut output,
         );
-        let shown = show(&output, fed.written, held.lines);
+        let shown = show(rt, &output, fed.written, held.lines);
         held = taking::next(
+            rt,
+            &mut source,
             &mut input,
             held,
             fed.consumed,
@@ -97,5 +103,5 @@ fn main() {
             b"linkage: lines after line ",
         );
     }
-    end(held, &mut output);
+    end(rt, held, &mut output);
 }

@@ -6,8 +6,11 @@
 ghost use Rattle.io.specs.Counts.{IsPrefixLen};
 
 use frames::{LONGEST, Line};
-use libc::STDOUT_FILENO;
 use model::{Engine, Version};
+use std::env::{Env, FillError};
+use std::fs::File;
+use std::io::{Error, ErrorKind, Print, Read};
+use std::str;
 
 // How many bytes of a file are held at a time.
 const PIECE: usize = 1000;
@@ -23,26 +26,28 @@ fn within(n: usize, bytes: &[u8]) -> usize
     if n < bytes.len() { n } else { bytes.len() }
 }
 
-// Writes the first n bytes.
-fn show(bytes: &[u8], n: usize) {
+// Writes the first n bytes. Where they can't be written there is nobody to tell.
+fn show(rt: HostRuntime, bytes: &[u8], n: usize) {
     let end = within(n, bytes);
-    io::write_all(STDOUT_FILENO, &bytes[..end]);
+    let _ = rt.write_all(&bytes[..end]);
 }
 
-// One read.
-fn read_some(fd: i32, bytes: &mut [u8]) -> usize
+// One read. One that fails reads nothing.
+fn read_some(file: &mut File, bytes: &mut [u8]) -> usize
     ensures { IsPrefixLen result bytes.new }
 {
-    let got = libc::read(fd, bytes);
-    io::count(got, bytes)
+    match file.read(bytes) {
+        Ok(n) => n,
+        Err(_) => 0,
+    }
 }
 
 // Reads behind the first n bytes of a buffer, and gives the place behind what it has read.
-fn read_behind(fd: i32, input: &mut [u8], n: usize) -> usize
+fn read_behind(file: &mut File, input: &mut [u8], n: usize) -> usize
     ensures { IsPrefixLen result input.new }
 {
     let from = within(n, input);
-    let end = from + read_some(fd, &mut input[from..]);
+    let end = from + read_some(file, &mut input[from..]);
     within(end, input)
 }
 
@@ -55,16 +60,16 @@ fn is_at_end(len: usize, filled: usize, taken: usize) -> bool {
 }
 
 // Writes the answer to a last line that has no line feed, of which this many bytes are left.
-fn end(len: usize) {
+fn end(rt: HostRuntime, len: usize) {
     let mut output = [0u8; ROOM];
     let line = frames::finish(len, &mut output);
     if let Line::Written(n) = line {
-        show(&output, n);
+        show(rt, &output, n);
     }
 }
 
 // Runs the list in an open file, from a fresh engine.
-fn run(fd: i32) {
+fn run(rt: HostRuntime, file: &mut File) {
     let mut roles = [0u64; Engine::USERS];
     let mut readers = [0u64; Engine::DATABASES];
     let mut forwards = [0u64; Engine::DATABASES];
@@ -83,7 +88,7 @@ fn run(fd: i32) {
     let mut len = 0usize;
     let mut turns = u64::MAX;
     while 0 < turns {
-        let filled = read_behind(fd, &mut input, len);
+        let filled = read_behind(file, &mut input, len);
         let fed = frames::feed(
             &mut roles,
             &mut readers,
@@ -101,7 +106,7 @@ fn run(fd: i32) {
             &input[..filled],
             &mut output,
         );
-        show(&output, fed.written);
+        show(rt, &output, fed.written);
         let taken = fed.consumed;
         let is_last = is_at_end(len, filled, taken);
         len = frames::keep(&mut input, taken, filled);
@@ -110,27 +115,37 @@ fn run(fd: i32) {
         }
         turns -= 1;
     }
-    end(len);
+    end(rt, len);
 }
 
-// Runs the list that argument i names.
-fn run_named(i: usize) {
-    let mut path = io::buffer();
-    let length = os::arg(i, &mut path);
-    let fd = os::open_read(&path[..length]);
-    if fd < 0 {
-        os::fail(&path[..length]);
-        return;
+// Opens the file that a path names.
+fn open(rt: HostRuntime, path: &[u8]) -> Result<File, Error> {
+    match str::from_utf8(path) {
+        Ok(path) => File::open(&rt, path),
+        Err(_) => Err(Error::from(ErrorKind::InvalidFilename)),
     }
-    run(fd);
-    libc::close(fd);
 }
 
-fn main() {
-    let count = os::arg_count();
-    let mut i = 1usize;
-    while i < count {
-        run_named(i);
-        i += 1;
+// Runs the list that argument i names, and gives whether there is such an argument. One that is too long
+// for a path counts as empty, and names no file.
+fn run_named(rt: HostRuntime, i: usize) -> bool {
+    let mut path = io::buffer();
+    let length = match rt.arg(i, &mut path) {
+        Ok(length) => length,
+        Err(FillError::TooLong) => 0,
+        Err(FillError::NotPresent) => return false,
+    };
+    match open(rt, &path[..length]) {
+        Ok(mut file) => run(rt, &mut file),
+        Err(failure) => streams::say(rt, &path[..length], failure),
+    }
+    true
+}
+
+fn main(rt: HostRuntime) {
+    for i in 1..usize::MAX {
+        if !run_named(rt, i) {
+            break;
+        }
     }
 }

@@ -2,7 +2,7 @@
 use super::Version;
 
 // A change of the tables.
-#[derive(Drop)]
+#[derive(Clone, Copy)]
 pub enum Change {
     Assign { user: usize, role: usize },
     Withdraw { user: usize, role: usize },
@@ -13,14 +13,14 @@ pub enum Change {
 }
 
 // The products on one directory. Each has sessions of its own.
-#[derive(Drop)]
+#[derive(Clone, Copy)]
 pub enum Product {
     Server,
     TermBank,
 }
 
 // What is asked of a session.
-#[derive(Drop)]
+#[derive(Clone, Copy)]
 pub enum Ask {
     Open,
     Conflicting { root: usize },
@@ -29,7 +29,7 @@ pub enum Ask {
 }
 
 // A call, with the numbers of its frame, or what is no frame.
-#[derive(Drop)]
+#[derive(Clone, Copy)]
 pub enum Call {
     Table(Change),
     Session {
@@ -48,7 +48,7 @@ pub enum Call {
 }
 
 // The rows of the refusal table.
-#[derive(Drop)]
+#[derive(Clone, Copy)]
 pub enum Refusal {
     Malformed,
     AboveLimit,
@@ -68,14 +68,14 @@ pub enum Refusal {
 }
 
 // The answer to a read.
-#[derive(Drop)]
+#[derive(Clone, Copy)]
 pub enum Verdict {
     Granted,
     Refused(Refusal),
 }
 
 // The answer to any call.
-#[derive(Drop)]
+#[derive(Clone, Copy)]
 pub enum Answer {
     // The system version, to a change of the tables or an opening.
     Version(Version),

@@ -11,7 +11,7 @@ use tables::Tables;
 pub type Version = u32;
 
 // Who holds and may read what, and since when.
-#[derive(Drop)]
+#[derive(Clone, Copy)]
 pub struct Directory {
     pub tables: Tables,
     // Number u: the version of user u.
@@ -23,7 +23,7 @@ pub struct Directory {
 // What was asked to be kept apart. The sessions of both products have their numbers here: first the
 // server's, then the term bank's. Flow f of session number s has place s * FLOWS + f, and the role set
 // of its constraint for flow g place (s * FLOWS + f) * FLOWS + g. What is not in use is zero.
-#[derive(Drop)]
+#[derive(Clone, Copy)]
 pub struct Sessions {
     // The set of the open sessions.
     pub opened: u64,
@@ -37,14 +37,14 @@ pub struct Sessions {
     pub rolesets: [u64; Engine::ROLE_SETS],
 }
 
-#[derive(Drop)]
+#[derive(Clone, Copy)]
 pub struct Engine {
     pub directory: Directory,
     pub sessions: Sessions,
 }
 
 // A flow's constraint, by value.
-#[derive(Drop)]
+#[derive(Clone, Copy)]
 pub struct Constraint {
     pub version: Version,
     pub deny: u64,
@@ -53,14 +53,14 @@ pub struct Constraint {
 }
 
 // A call's answer, and the engine after it.
-#[derive(Drop)]
+#[derive(Clone, Copy)]
 pub struct Changed {
     pub answer: Answer,
     pub engine: Engine,
 }
 
 // The answer to a question about a constraint, and the constraint, which is zero where it is refused.
-#[derive(Drop)]
+#[derive(Clone, Copy)]
 pub struct Shown {
     pub answer: Answer,
     pub constraint: Constraint,

@@ -1,18 +1,19 @@
 // The arguments: which session a picture is asked of.
-use libc::STDERR_FILENO;
 use model::{Engine, Product};
+use std::env::{Env, FillError};
+use std::io::Print;
 
 // How many bytes of an argument are looked at: one more than the longest right one has.
 const LONGEST: usize = 7;
 
 // A line on standard error. Where that can't be written there is nobody to tell.
-fn say(line: &[u8]) {
-    io::write_all(STDERR_FILENO, line);
+fn say(rt: HostRuntime, line: &[u8]) {
+    let _ = rt.stderr().write_all(line);
 }
 
 // Says what is wrong, and gives a number that is no session's.
-fn wrong(line: &[u8]) -> usize {
-    say(line);
+fn wrong(rt: HostRuntime, line: &[u8]) -> usize {
+    say(rt, line);
     Engine::ALL_SESSIONS
 }
 
@@ -55,10 +56,27 @@ fn value(b: u8, base: u8) -> usize {
     (b - base) as usize
 }
 
-// The session that the second argument names, or one above the limit.
-fn session() -> usize {
+// Puts argument i into a word, and gives how many bytes it has. None of one that has no room there.
+fn argument(rt: HostRuntime, i: usize, word: &mut [u8; LONGEST]) -> usize {
+    match rt.arg(i, word) {
+        Ok(n) => n,
+        Err(_) => 0,
+    }
+}
+
+// Whether there is an argument i.
+fn has_argument(rt: HostRuntime, i: usize) -> bool {
     let mut word = [0u8; LONGEST];
-    let n = os::arg(2, &mut word);
+    match rt.arg(i, &mut word) {
+        Err(FillError::NotPresent) => false,
+        Ok(_) | Err(FillError::TooLong) => true,
+    }
+}
+
+// The session that the second argument names, or one above the limit.
+fn session(rt: HostRuntime) -> usize {
+    let mut word = [0u8; LONGEST];
+    let n = argument(rt, 2, &mut word);
     if n != 2 {
         return Engine::SESSIONS;
     }
@@ -69,38 +87,39 @@ fn session() -> usize {
 }
 
 // The number of a product's session that is asked for, where there is one.
-fn session_of(product: Product) -> usize {
-    let session = session();
+fn session_of(rt: HostRuntime, product: Product) -> usize {
+    let session = session(rt);
     if Engine::SESSIONS <= session {
-        return wrong(b"picture: the session has two digits, 00 to 0f\n");
+        return wrong(rt, b"picture: the session has two digits, 00 to 0f\n");
     }
     sessions::session_at(product, session)
 }
 
 // The number among those of both products of the session that is asked for. Where the arguments are
 // wrong, that is said, and the number is past them all.
-pub(crate) fn session_asked() -> usize {
-    if os::arg_count() != 3 {
+pub(crate) fn session_asked(rt: HostRuntime) -> usize {
+    if !has_argument(rt, 2) || has_argument(rt, 3) {
         return wrong(
+            rt,
             b"picture: name a product and a session, as in: picture server 00 < FRAMES > OUT.svg\n",
         );
     }
     let mut word = [0u8; LONGEST];
-    let n = os::arg(1, &mut word);
+    let n = argument(rt, 1, &mut word);
     if is_word(&word, n, b"server") {
-        return session_of(Product::Server);
+        return session_of(rt, Product::Server);
     }
     if is_word(&word, n, b"bank") {
-        return session_of(Product::TermBank);
+        return session_of(rt, Product::TermBank);
     }
-    wrong(b"picture: the product is server or bank\n")
+    wrong(rt, b"picture: the product is server or bank\n")
 }
 
 // Whether session s is among the open ones. Where it isn't, that is said.
-pub(crate) fn is_there(opened: u64, s: usize) -> bool {
+pub(crate) fn is_there(rt: HostRuntime, opened: u64, s: usize) -> bool {
     if sets::contains(opened, s) {
         return true;
     }
-    say(b"picture: the session isn't open after these frames\n");
+    say(rt, b"picture: the session isn't open after these frames\n");
     false
 }

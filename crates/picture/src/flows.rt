@@ -53,30 +53,38 @@ fn swing(from: usize, to: usize) -> usize {
 }
 
 // The head of an arrow, where it comes to a database.
-fn arrow_head(out: &mut [u8; ROOM], at: &mut usize, g: usize, y: usize) {
-    shapes::begin_path(out, at, b'a', g);
-    shapes::point(out, at, b'M', LEFT - 9, numbers::less(y, 5));
-    shapes::point(out, at, b'L', LEFT, y);
-    shapes::point(out, at, b'L', LEFT - 9, numbers::plus(y, 5));
-    shapes::end_path(out, at);
+fn arrow_head(rt: HostRuntime, out: &mut [u8; ROOM], at: &mut usize, g: usize, y: usize) {
+    shapes::begin_path(rt, out, at, b'a', g);
+    shapes::point(rt, out, at, b'M', LEFT - 9, numbers::less(y, 5));
+    shapes::point(rt, out, at, b'L', LEFT, y);
+    shapes::point(rt, out, at, b'L', LEFT - 9, numbers::plus(y, 5));
+    shapes::end_path(rt, out, at);
 }
 
 // A database forwards to another: a curve from below the middle of one to above the middle of the other.
-fn forwarding(out: &mut [u8; ROOM], at: &mut usize, g: usize, from: usize, to: usize) {
+fn forwarding(
+    rt: HostRuntime,
+    out: &mut [u8; ROOM],
+    at: &mut usize,
+    g: usize,
+    from: usize,
+    to: usize,
+) {
     let x = numbers::less(LEFT, swing(from, to));
     let start = numbers::plus(from, 7);
     let end = numbers::less(to, 7);
-    shapes::begin_path(out, at, b'e', g);
-    shapes::point(out, at, b'M', LEFT, start);
-    shapes::point(out, at, b'C', x, start);
-    shapes::point(out, at, b' ', x, end);
-    shapes::point(out, at, b' ', LEFT - 6, end);
-    shapes::end_path(out, at);
-    arrow_head(out, at, g, end);
+    shapes::begin_path(rt, out, at, b'e', g);
+    shapes::point(rt, out, at, b'M', LEFT, start);
+    shapes::point(rt, out, at, b'C', x, start);
+    shapes::point(rt, out, at, b' ', x, end);
+    shapes::point(rt, out, at, b' ', LEFT - 6, end);
+    shapes::end_path(rt, out, at);
+    arrow_head(rt, out, at, g, end);
 }
 
 // The databases of the reach that one of them forwards to.
 fn forwards_from(
+    rt: HostRuntime,
     out: &mut [u8; ROOM],
     at: &mut usize,
     g: usize,
@@ -89,22 +97,30 @@ fn forwards_from(
     while e < Engine::DATABASES {
         if sets::contains(sets::intersection(reach, targets), e) {
             let to = row_at(top, numbers::rank(reach, e));
-            forwarding(out, at, g, from, to);
+            forwarding(rt, out, at, g, from, to);
         }
         e += 1;
     }
 }
 
 // A role may read a database.
-fn permission(out: &mut [u8; ROOM], at: &mut usize, g: usize, from: usize, to: usize) {
-    shapes::begin_path(out, at, b'e', g);
-    shapes::point(out, at, b'M', RIGHT, from);
-    shapes::point(out, at, b'L', ROLES - RADIUS, to);
-    shapes::end_path(out, at);
+fn permission(
+    rt: HostRuntime,
+    out: &mut [u8; ROOM],
+    at: &mut usize,
+    g: usize,
+    from: usize,
+    to: usize,
+) {
+    shapes::begin_path(rt, out, at, b'e', g);
+    shapes::point(rt, out, at, b'M', RIGHT, from);
+    shapes::point(rt, out, at, b'L', ROLES - RADIUS, to);
+    shapes::end_path(rt, out, at);
 }
 
 // The roles that may read one database.
 fn readers_of(
+    rt: HostRuntime,
     out: &mut [u8; ROOM],
     at: &mut usize,
     g: usize,
@@ -117,18 +133,27 @@ fn readers_of(
     while r < Engine::ROLES {
         if sets::contains(readers, r) {
             let to = row_at(top, numbers::rank(may, r));
-            permission(out, at, g, from, to);
+            permission(rt, out, at, g, from, to);
         }
         r += 1;
     }
 }
 
 // The rectangle of a database; that of a root has a thick border.
-fn database(out: &mut [u8; ROOM], at: &mut usize, g: usize, d: usize, is_root: bool, y: usize) {
+fn database(
+    rt: HostRuntime,
+    out: &mut [u8; ROOM],
+    at: &mut usize,
+    g: usize,
+    d: usize,
+    is_root: bool,
+    y: usize,
+) {
     let letter = if is_root { b'r' } else { b'd' };
     let top = numbers::less(y, 14);
-    shapes::rectangle(out, at, letter, g, LEFT, top, RIGHT - LEFT, 28);
+    shapes::rectangle(rt, out, at, letter, g, LEFT, top, RIGHT - LEFT, 28);
     shapes::label(
+        rt,
         out,
         at,
         b'm',
@@ -141,6 +166,7 @@ fn database(out: &mut [u8; ROOM], at: &mut usize, g: usize, d: usize, is_root: b
 
 // The databases of a flow, with all lines that leave them.
 fn databases<'a>(
+    rt: HostRuntime,
     out: &mut [u8; ROOM],
     at: &mut usize,
     readers: &'a [u64; Engine::DATABASES],
@@ -155,39 +181,47 @@ fn databases<'a>(
     while d < Engine::DATABASES {
         if sets::contains(reach, d) {
             let y = row_at(top, numbers::rank(reach, d));
-            forwards_from(out, at, g, reach, lent::row(forwards, d), top, y);
-            readers_of(out, at, g, may, lent::row(readers, d), top, y);
-            database(out, at, g, d, d == root, y);
+            forwards_from(rt, out, at, g, reach, lent::row(forwards, d), top, y);
+            readers_of(rt, out, at, g, may, lent::row(readers, d), top, y);
+            database(rt, out, at, g, d, d == root, y);
         }
         d += 1;
     }
 }
 
 // The circle of a role.
-fn role(out: &mut [u8; ROOM], at: &mut usize, g: usize, r: usize, y: usize) {
-    shapes::circle(out, at, g, ROLES, y, RADIUS);
-    shapes::label(out, at, b'm', b'R', r, ROLES, numbers::plus(y, 5));
+fn role(rt: HostRuntime, out: &mut [u8; ROOM], at: &mut usize, g: usize, r: usize, y: usize) {
+    shapes::circle(rt, out, at, g, ROLES, y, RADIUS);
+    shapes::label(rt, out, at, b'm', b'R', r, ROLES, numbers::plus(y, 5));
 }
 
 // The roles that may read a flow.
-fn roles(out: &mut [u8; ROOM], at: &mut usize, g: usize, may: u64, top: usize) {
+fn roles(rt: HostRuntime, out: &mut [u8; ROOM], at: &mut usize, g: usize, may: u64, top: usize) {
     let mut r = 0;
     while r < Engine::ROLES {
         if sets::contains(may, r) {
-            role(out, at, g, r, row_at(top, numbers::rank(may, r)));
+            role(rt, out, at, g, r, row_at(top, numbers::rank(may, r)));
         }
         r += 1;
     }
 }
 
 // The band itself, with the flow's number.
-fn ground(out: &mut [u8; ROOM], at: &mut usize, g: usize, top: usize, depth: usize) {
-    shapes::rectangle(out, at, b'b', g, 16, top, 400, depth);
-    shapes::flow_name(out, at, g, 28, numbers::plus(top, 21));
+fn ground(
+    rt: HostRuntime,
+    out: &mut [u8; ROOM],
+    at: &mut usize,
+    g: usize,
+    top: usize,
+    depth: usize,
+) {
+    shapes::rectangle(rt, out, at, b'b', g, 16, top, 400, depth);
+    shapes::flow_name(rt, out, at, g, 28, numbers::plus(top, 21));
 }
 
 // All of flow g: its root, its reach and the roles that may read a database of it.
 pub(crate) fn flow<'a>(
+    rt: HostRuntime,
     out: &mut [u8; ROOM],
     at: &mut usize,
     readers: &'a [u64; Engine::DATABASES],
@@ -198,7 +232,7 @@ pub(crate) fn flow<'a>(
     may: u64,
     top: usize,
 ) {
-    ground(out, at, g, top, depth(reach, may));
-    databases(out, at, readers, forwards, g, root, reach, may, top);
-    roles(out, at, g, may, top);
+    ground(rt, out, at, g, top, depth(reach, may));
+    databases(rt, out, at, readers, forwards, g, root, reach, may, top);
+    roles(rt, out, at, g, may, top);
 }

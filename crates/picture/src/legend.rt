@@ -9,8 +9,9 @@ const MARK: usize = 91;
 
 // The colour of each flow, in all its classes: b is its band, d a shape, r a root, e a line, a the head of
 // an arrow, i and j are texts.
-fn colours(out: &mut [u8; ROOM], at: &mut usize) {
+fn colours(rt: HostRuntime, out: &mut [u8; ROOM], at: &mut usize) {
     page::text(
+        rt,
         out,
         at,
         b".b0,.a0,.i0,.j0{fill:#1b5fa8}.d0,.r0,.e0{stroke:#1b5fa8}
@@ -25,8 +26,9 @@ fn colours(out: &mut [u8; ROOM], at: &mut usize) {
     );
 }
 
-fn style(out: &mut [u8; ROOM], at: &mut usize) {
+fn style(rt: HostRuntime, out: &mut [u8; ROOM], at: &mut usize) {
     page::text(
+        rt,
         out,
         at,
         b"<style>
@@ -45,8 +47,9 @@ text{font-family:Arial,Helvetica,sans-serif;font-size:14px;fill:#111}
 .x{fill:#111}
 ",
     );
-    colours(out, at);
+    colours(rt, out, at);
     page::text(
+        rt,
         out,
         at,
         b"</style>\n<rect width='100%' height='100%' fill='#fff'/>\n",
@@ -54,48 +57,50 @@ text{font-family:Arial,Helvetica,sans-serif;font-size:14px;fill:#111}
 }
 
 // The start of a picture of this height.
-pub(crate) fn begin(out: &mut [u8; ROOM], at: &mut usize, height: usize) {
-    page::text(out, at, b"<svg xmlns='http://www.w3.org/2000/svg'");
-    page::number(out, at, b"width", WIDTH);
-    page::number(out, at, b"height", height);
-    page::text(out, at, b" viewBox='0 0 ");
-    page::decimal(out, at, WIDTH);
-    page::byte(out, at, b' ');
-    page::decimal(out, at, height);
-    page::text(out, at, b"'>\n");
-    style(out, at);
+pub(crate) fn begin(rt: HostRuntime, out: &mut [u8; ROOM], at: &mut usize, height: usize) {
+    page::text(rt, out, at, b"<svg xmlns='http://www.w3.org/2000/svg'");
+    page::number(rt, out, at, b"width", WIDTH);
+    page::number(rt, out, at, b"height", height);
+    page::text(rt, out, at, b" viewBox='0 0 ");
+    page::decimal(rt, out, at, WIDTH);
+    page::byte(rt, out, at, b' ');
+    page::decimal(rt, out, at, height);
+    page::text(rt, out, at, b"'>\n");
+    style(rt, out, at);
 }
 
-pub(crate) fn end(out: &mut [u8; ROOM], at: &mut usize) {
-    page::text(out, at, b"</svg>\n");
+pub(crate) fn end(rt: HostRuntime, out: &mut [u8; ROOM], at: &mut usize) {
+    page::text(rt, out, at, b"</svg>\n");
 }
 
 // The names of the columns.
-pub(crate) fn columns(out: &mut [u8; ROOM], at: &mut usize, y: usize) {
-    shapes::words(out, at, b'm', 162, y, b"databases");
-    shapes::words(out, at, b'm', 350, y, b"roles that read");
-    shapes::words(out, at, b'm', 622, y, b"users who hold both");
-    shapes::words(out, at, b'm', 762, y, b"overlapping roles");
+pub(crate) fn columns(rt: HostRuntime, out: &mut [u8; ROOM], at: &mut usize, y: usize) {
+    shapes::words(rt, out, at, b'm', 162, y, b"databases");
+    shapes::words(rt, out, at, b'm', 350, y, b"roles that read");
+    shapes::words(rt, out, at, b'm', 622, y, b"users who hold both");
+    shapes::words(rt, out, at, b'm', 762, y, b"overlapping roles");
 }
 
 // What is said of a mark, beside it.
-fn said(out: &mut [u8; ROOM], at: &mut usize, y: usize, text: &[u8]) {
-    shapes::words(out, at, b'n', 124, numbers::plus(y, 5), text);
+fn said(rt: HostRuntime, out: &mut [u8; ROOM], at: &mut usize, y: usize, text: &[u8]) {
+    shapes::words(rt, out, at, b'n', 124, numbers::plus(y, 5), text);
 }
 
 // The marks of the left half.
-fn flow_marks(out: &mut [u8; ROOM], at: &mut usize, y: usize) {
-    shapes::rectangle(out, at, b'd', 0, 28, numbers::less(y, 12), 34, 24);
-    shapes::rectangle(out, at, b'r', 0, 74, numbers::less(y, 12), 34, 24);
+fn flow_marks(rt: HostRuntime, out: &mut [u8; ROOM], at: &mut usize, y: usize) {
+    shapes::rectangle(rt, out, at, b'd', 0, 28, numbers::less(y, 12), 34, 24);
+    shapes::rectangle(rt, out, at, b'r', 0, 74, numbers::less(y, 12), 34, 24);
     said(
+        rt,
         out,
         at,
         y,
         b"a database that the flow's records come to; with a thick border: its root. Arrows are forwarding",
     );
     let next = numbers::plus(y, 40);
-    shapes::circle(out, at, 0, MARK, next, 16);
+    shapes::circle(rt, out, at, 0, MARK, next, 16);
     said(
+        rt,
         out,
         at,
         next,
@@ -104,33 +109,37 @@ fn flow_marks(out: &mut [u8; ROOM], at: &mut usize, y: usize) {
 }
 
 // The marks of the right half.
-fn role_marks(out: &mut [u8; ROOM], at: &mut usize, y: usize) {
-    overlaps::mark(out, at, b'k', false, MARK, y);
+fn role_marks(rt: HostRuntime, out: &mut [u8; ROOM], at: &mut usize, y: usize) {
+    overlaps::mark(rt, out, at, b'k', false, MARK, y);
     said(
+        rt,
         out,
         at,
         y,
         b"an overlapping role: the users on a line hold it together with the role where the line begins",
     );
     let grey = numbers::plus(y, 40);
-    overlaps::mark(out, at, b'p', false, MARK, grey);
+    overlaps::mark(rt, out, at, b'p', false, MARK, grey);
     said(
+        rt,
         out,
         at,
         grey,
         b"lines of two flows or more come to it, so it might conflict, but it doesn't",
     );
     let filled = numbers::plus(grey, 40);
-    overlaps::mark(out, at, b'x', false, MARK, filled);
+    overlaps::mark(rt, out, at, b'x', false, MARK, filled);
     said(
+        rt,
         out,
         at,
         filled,
         b"it conflicts today: some user who holds it reads two flows",
     );
     let denied = numbers::plus(filled, 40);
-    overlaps::mark(out, at, b'k', true, MARK, denied);
+    overlaps::mark(rt, out, at, b'k', true, MARK, denied);
     said(
+        rt,
         out,
         at,
         denied,
@@ -139,12 +148,13 @@ fn role_marks(out: &mut [u8; ROOM], at: &mut usize, y: usize) {
 }
 
 // All marks. Gives the height below them.
-pub(crate) fn marks(out: &mut [u8; ROOM], at: &mut usize, y: usize) -> usize {
-    shapes::words(out, at, b'h', 24, y, b"Marks");
-    flow_marks(out, at, numbers::plus(y, 30));
-    role_marks(out, at, numbers::plus(y, 110));
+pub(crate) fn marks(rt: HostRuntime, out: &mut [u8; ROOM], at: &mut usize, y: usize) -> usize {
+    shapes::words(rt, out, at, b'h', 24, y, b"Marks");
+    flow_marks(rt, out, at, numbers::plus(y, 30));
+    role_marks(rt, out, at, numbers::plus(y, 110));
     let last = numbers::plus(y, 276);
     shapes::words(
+        rt,
         out,
         at,
         b'n',

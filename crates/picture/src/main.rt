@@ -27,6 +27,7 @@ fn carried_out(lines: u64, answers: &[u8], n: usize) -> u64 {
 // Carries out all frames of standard input. Their answers are dropped. Whether the input was read to its
 // end; where it wasn't, that is said.
 fn carry_out(
+    rt: HostRuntime,
     roles: &mut [u64; Engine::USERS],
     readers: &mut [u64; Engine::DATABASES],
     forwards: &mut [u64; Engine::DATABASES],
@@ -43,6 +44,7 @@ fn carry_out(
 ) -> bool {
     let mut input = [0u8; BUFFER];
     let mut output = [0u8; BUFFER];
+    let mut source = rt.stdin();
     let mut held = taking::nothing();
     while 0 < held.turns {
         let fed = frames::feed(
@@ -64,6 +66,8 @@ fn carry_out(
         );
         let lines = carried_out(held.lines, &output, fed.written);
         held = taking::next(
+            rt,
+            &mut source,
             &mut input,
             held,
             fed.consumed,
@@ -78,6 +82,7 @@ fn carry_out(
 // Carries out all frames from a fresh engine, of which these arrays are what a picture shows. Whether
 // all were read and session s is open then; where not, that is said.
 fn run(
+    rt: HostRuntime,
     roles: &mut [u64; Engine::USERS],
     readers: &mut [u64; Engine::DATABASES],
     forwards: &mut [u64; Engine::DATABASES],
@@ -94,6 +99,7 @@ fn run(
     let mut version: Version = 0;
     let mut opened = 0u64;
     let is_whole = carry_out(
+        rt,
         roles,
         readers,
         forwards,
@@ -111,11 +117,11 @@ fn run(
     if !is_whole {
         return false;
     }
-    asked::is_there(opened, s)
+    asked::is_there(rt, opened, s)
 }
 
 // Reads the frames and writes the picture of session s.
-fn picture(s: usize) {
+fn picture(rt: HostRuntime, s: usize) {
     let mut roles = [0u64; Engine::USERS];
     let mut readers = [0u64; Engine::DATABASES];
     let mut forwards = [0u64; Engine::DATABASES];
@@ -126,6 +132,7 @@ fn picture(s: usize) {
     let mut denies = [0u64; Engine::PLACES];
     let mut rolesets = [0u64; Engine::ROLE_SETS];
     let is_there = run(
+        rt,
         &mut roles,
         &mut readers,
         &mut forwards,
@@ -139,15 +146,15 @@ fn picture(s: usize) {
     );
     if is_there {
         session::show(
-            &roles, &readers, &forwards, &counts, &roots, &reaches, &versions, &denies, &rolesets,
-            s,
+            rt, &roles, &readers, &forwards, &counts, &roots, &reaches, &versions, &denies,
+            &rolesets, s,
         );
     }
 }
 
-fn main() {
-    let s = asked::session_asked();
+fn main(rt: HostRuntime) {
+    let s = asked::session_asked(rt);
     if s < Engine::ALL_SESSIONS {
-        picture(s);
+        picture(rt, s);
     }
 }

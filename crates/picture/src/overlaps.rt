@@ -52,6 +52,7 @@ pub(crate) fn is_coloured(may: &[u64; Engine::FLOWS], overlapping: u64) -> bool 
 
 // The line from role r of flow g, which stands at height `from`, to the square of role o.
 fn edge(
+    rt: HostRuntime,
     out: &mut [u8; ROOM],
     at: &mut usize,
     roles: &[u64; Engine::USERS],
@@ -62,19 +63,20 @@ fn edge(
     y: usize,
     middle: usize,
 ) {
-    shapes::begin_path(out, at, b'e', g);
-    shapes::point(out, at, b'M', flows::LEAVING, from);
-    shapes::point(out, at, b'L', LEVEL, y);
-    shapes::point(out, at, b'L', TURN, y);
-    shapes::point(out, at, b'L', SQUARE, middle);
-    shapes::end_path(out, at);
-    shapes::begin_text_of(out, at, b'j', g, LEVEL + 8, numbers::less(y, 4));
-    users::on_edge(out, at, roles, r, o);
-    shapes::end_text(out, at);
+    shapes::begin_path(rt, out, at, b'e', g);
+    shapes::point(rt, out, at, b'M', flows::LEAVING, from);
+    shapes::point(rt, out, at, b'L', LEVEL, y);
+    shapes::point(rt, out, at, b'L', TURN, y);
+    shapes::point(rt, out, at, b'L', SQUARE, middle);
+    shapes::end_path(rt, out, at);
+    shapes::begin_text_of(rt, out, at, b'j', g, LEVEL + 8, numbers::less(y, 4));
+    users::on_edge(rt, out, at, roles, r, o);
+    shapes::end_text(rt, out, at);
 }
 
 // The lines of one flow. Gives the height of the next line.
 fn edges_of(
+    rt: HostRuntime,
     out: &mut [u8; ROOM],
     at: &mut usize,
     roles: &[u64; Engine::USERS],
@@ -91,7 +93,7 @@ fn edges_of(
     while r < Engine::ROLES {
         if sets::contains(sets::intersection(may, overlapping), r) {
             let from = flows::row_at(top, numbers::rank(may, r));
-            edge(out, at, roles, g, r, o, from, now, middle);
+            edge(rt, out, at, roles, g, r, o, from, now, middle);
             now = numbers::plus(now, LINE);
         }
         r += 1;
@@ -101,6 +103,7 @@ fn edges_of(
 
 // The lines of all flows.
 fn edges<'a>(
+    rt: HostRuntime,
     out: &mut [u8; ROOM],
     at: &mut usize,
     roles: &'a [u64; Engine::USERS],
@@ -115,6 +118,7 @@ fn edges<'a>(
     let mut g = 0;
     while g < Engine::FLOWS {
         now = edges_of(
+            rt,
             out,
             at,
             roles,
@@ -140,6 +144,7 @@ fn ground(is_conflicting: bool, is_grey: bool) -> u8 {
 
 // A square without a name, at this place of its middle, with a second border where it is denied.
 pub(crate) fn mark(
+    rt: HostRuntime,
     out: &mut [u8; ROOM],
     at: &mut usize,
     ground: u8,
@@ -152,6 +157,7 @@ pub(crate) fn mark(
     if is_denied {
         let far = numbers::less(left, 4);
         shapes::plain(
+            rt,
             out,
             at,
             b'k',
@@ -161,15 +167,23 @@ pub(crate) fn mark(
             SIDE + 8,
         );
     }
-    shapes::plain(out, at, ground, left, top, SIDE, SIDE);
+    shapes::plain(rt, out, at, ground, left, top, SIDE, SIDE);
 }
 
 // The square of role o.
-fn square(out: &mut [u8; ROOM], at: &mut usize, o: usize, ground: u8, is_denied: bool, y: usize) {
+fn square(
+    rt: HostRuntime,
+    out: &mut [u8; ROOM],
+    at: &mut usize,
+    o: usize,
+    ground: u8,
+    is_denied: bool,
+    y: usize,
+) {
     let x = SQUARE + SIDE / 2;
-    mark(out, at, ground, is_denied, x, y);
+    mark(rt, out, at, ground, is_denied, x, y);
     let ink = if ground == b'x' { b'w' } else { b'm' };
-    shapes::label(out, at, ink, b'R', o, x, numbers::plus(y, 5));
+    shapes::label(rt, out, at, ink, b'R', o, x, numbers::plus(y, 5));
 }
 
 // How deep n lines are.
@@ -182,6 +196,7 @@ fn deep(n: usize) -> usize {
 
 // Role o with its lines. Gives the height where the next one begins.
 fn overlapping_role<'a>(
+    rt: HostRuntime,
     out: &mut [u8; ROOM],
     at: &mut usize,
     roles: &'a [u64; Engine::USERS],
@@ -200,15 +215,16 @@ fn overlapping_role<'a>(
     let depth = numbers::plus(deep(n), 18);
     let first = numbers::plus(y, 9 + LINE / 2);
     let middle = numbers::plus(y, depth / 2);
-    edges(out, at, roles, may, tops, overlapping, o, first, middle);
+    edges(rt, out, at, roles, may, tops, overlapping, o, first, middle);
     let ground = ground(sets::contains(conflicts, o), is_coloured(may, overlapping));
     let is_denied = sets::contains(denied, o);
-    square(out, at, o, ground, is_denied, middle);
+    square(rt, out, at, o, ground, is_denied, middle);
     numbers::plus(y, depth)
 }
 
 // All overlapping roles. Gives the height below them.
 pub(crate) fn overlapping_roles<'a>(
+    rt: HostRuntime,
     out: &mut [u8; ROOM],
     at: &mut usize,
     roles: &'a [u64; Engine::USERS],
@@ -221,7 +237,7 @@ pub(crate) fn overlapping_roles<'a>(
     let mut now = y;
     let mut o = 0;
     while o < Engine::ROLES {
-        now = overlapping_role(out, at, roles, may, tops, conflicts, denied, o, now);
+        now = overlapping_role(rt, out, at, roles, may, tops, conflicts, denied, o, now);
         o += 1;
     }
     now

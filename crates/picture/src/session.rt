@@ -37,6 +37,7 @@ fn tops<'a>(
 
 // The bands. Gives the height below them.
 fn bands<'a>(
+    rt: HostRuntime,
     out: &mut [u8; ROOM],
     at: &mut usize,
     readers: &'a [u64; Engine::DATABASES],
@@ -54,6 +55,7 @@ fn bands<'a>(
             let i = numbers::place(s, g);
             let reach = lent::row(reaches, i);
             flows::flow(
+                rt,
                 out,
                 at,
                 readers,
@@ -73,6 +75,7 @@ fn bands<'a>(
 
 // The constraints. Gives the height below them.
 fn constraints<'a>(
+    rt: HostRuntime,
     out: &mut [u8; ROOM],
     at: &mut usize,
     versions: &'a [Version; Engine::PLACES],
@@ -81,11 +84,11 @@ fn constraints<'a>(
     s: usize,
     n: usize,
 ) -> usize {
-    let mut y = panel::heading(out, at, TOP, b"Constraints");
+    let mut y = panel::heading(rt, out, at, TOP, b"Constraints");
     let mut g = 0;
     while g < Engine::FLOWS {
         if g < n {
-            y = panel::constraint(out, at, versions, denies, rolesets, s, g, y);
+            y = panel::constraint(rt, out, at, versions, denies, rolesets, s, g, y);
         }
         g += 1;
     }
@@ -94,6 +97,7 @@ fn constraints<'a>(
 
 // Which roles conflict today, and why. Gives the height below it.
 fn conflicting<'a>(
+    rt: HostRuntime,
     out: &mut [u8; ROOM],
     at: &mut usize,
     roles: &'a [u64; Engine::USERS],
@@ -102,12 +106,18 @@ fn conflicting<'a>(
     y: usize,
 ) -> usize {
     if conflicts == 0 {
-        let next = panel::heading(out, at, numbers::plus(y, 8), b"No role conflicts today");
-        return panel::clearings(out, at, roles, may, conflicts, next);
+        let next = panel::heading(rt, out, at, numbers::plus(y, 8), b"No role conflicts today");
+        return panel::clearings(rt, out, at, roles, may, conflicts, next);
     }
-    let next = panel::heading(out, at, numbers::plus(y, 8), b"Why roles conflict today");
-    let last = panel::reasons(out, at, roles, may, conflicts, next);
-    panel::clearings(out, at, roles, may, conflicts, last)
+    let next = panel::heading(
+        rt,
+        out,
+        at,
+        numbers::plus(y, 8),
+        b"Why roles conflict today",
+    );
+    let last = panel::reasons(rt, out, at, roles, may, conflicts, next);
+    panel::clearings(rt, out, at, roles, may, conflicts, last)
 }
 
 // All roles that may read some flow.
@@ -123,18 +133,20 @@ fn readers_of_all(may: &[u64; Engine::FLOWS]) -> u64 {
 
 // The lists of users and the marks, below all columns. Gives the height of the picture.
 fn foot(
+    rt: HostRuntime,
     out: &mut [u8; ROOM],
     at: &mut usize,
     roles: &[u64; Engine::USERS],
     all: u64,
     y: usize,
 ) -> usize {
-    let next = users::notes(out, at, roles, all, numbers::plus(y, 30));
-    legend::marks(out, at, numbers::plus(next, 10))
+    let next = users::notes(rt, out, at, roles, all, numbers::plus(y, 30));
+    legend::marks(rt, out, at, numbers::plus(next, 10))
 }
 
 // The overlapping roles. Gives the height below them.
 fn squares<'a>(
+    rt: HostRuntime,
     out: &mut [u8; ROOM],
     at: &mut usize,
     roles: &'a [u64; Engine::USERS],
@@ -147,12 +159,13 @@ fn squares<'a>(
 ) -> usize {
     let starts = tops(reaches, may, s, n);
     let denied = lent::row(denies, numbers::place(s, numbers::less(n, 1)));
-    overlaps::overlapping_roles(out, at, roles, may, &starts, conflicts, denied, TOP)
+    overlaps::overlapping_roles(rt, out, at, roles, may, &starts, conflicts, denied, TOP)
 }
 
 // What stands below the title of a session without flows. Gives the height of the picture.
-fn empty(out: &mut [u8; ROOM], at: &mut usize) -> usize {
+fn empty(rt: HostRuntime, out: &mut [u8; ROOM], at: &mut usize) -> usize {
     shapes::words(
+        rt,
         out,
         at,
         b'n',
@@ -165,6 +178,7 @@ fn empty(out: &mut [u8; ROOM], at: &mut usize) -> usize {
 
 // All that stands below the title. Gives the height of the picture.
 fn whole<'a>(
+    rt: HostRuntime,
     out: &mut [u8; ROOM],
     at: &mut usize,
     roles: &'a [u64; Engine::USERS],
@@ -180,50 +194,58 @@ fn whole<'a>(
 ) -> usize {
     let n = today::flows_today(counts, s);
     if n == 0 {
-        return empty(out, at);
+        return empty(rt, out, at);
     }
     let conflicts = today::conflicts_today(roles, readers, counts, reaches, s);
     let may = graph::roles_by_flow(readers, reaches, s, n, 0);
-    legend::columns(out, at, TOP - 14);
-    let left = bands(out, at, readers, forwards, roots, reaches, &may, s, n);
-    let right = squares(out, at, roles, reaches, denies, &may, conflicts, s, n);
-    let text = constraints(out, at, versions, denies, rolesets, s, n);
-    let beside = conflicting(out, at, roles, &may, conflicts, text);
+    legend::columns(rt, out, at, TOP - 14);
+    let left = bands(rt, out, at, readers, forwards, roots, reaches, &may, s, n);
+    let right = squares(rt, out, at, roles, reaches, denies, &may, conflicts, s, n);
+    let text = constraints(rt, out, at, versions, denies, rolesets, s, n);
+    let beside = conflicting(rt, out, at, roles, &may, conflicts, text);
     let lowest = numbers::greater(numbers::greater(left, right), beside);
-    foot(out, at, roles, readers_of_all(&may), lowest)
+    foot(rt, out, at, roles, readers_of_all(&may), lowest)
 }
 
 // Whose session it is.
-fn title(out: &mut [u8; ROOM], at: &mut usize, s: usize) {
-    shapes::begin_text(out, at, b't', 24, 36);
+fn title(rt: HostRuntime, out: &mut [u8; ROOM], at: &mut usize, s: usize) {
+    shapes::begin_text(rt, out, at, b't', 24, 36);
     if s < Engine::SESSIONS {
-        page::text(out, at, b"The server's session ");
+        page::text(rt, out, at, b"The server's session ");
     } else {
-        page::text(out, at, b"The term bank's session ");
+        page::text(rt, out, at, b"The term bank's session ");
     }
-    page::hex(out, at, s % Engine::SESSIONS, 2);
-    shapes::end_text(out, at);
+    page::hex(rt, out, at, s % Engine::SESSIONS, 2);
+    shapes::end_text(rt, out, at);
 }
 
 // The first turn only measures; the second one writes, and knows the height.
-fn begin(out: &mut [u8; ROOM], at: &mut usize, turn: usize, height: usize, s: usize) {
+fn begin(
+    rt: HostRuntime,
+    out: &mut [u8; ROOM],
+    at: &mut usize,
+    turn: usize,
+    height: usize,
+    s: usize,
+) {
     if turn == 0 {
         *at = page::MUTE;
         return;
     }
     *at = 0;
-    legend::begin(out, at, height);
-    title(out, at, s);
+    legend::begin(rt, out, at, height);
+    title(rt, out, at, s);
 }
 
-fn end(out: &mut [u8; ROOM], at: &mut usize) {
-    legend::end(out, at);
-    page::flush(out, at);
+fn end(rt: HostRuntime, out: &mut [u8; ROOM], at: &mut usize) {
+    legend::end(rt, out, at);
+    page::flush(rt, out, at);
 }
 
 // Writes the picture of session s, which has its number among those of both products. It is gone through
 // twice, since its height stands at its start.
 pub(crate) fn show<'a>(
+    rt: HostRuntime,
     roles: &'a [u64; Engine::USERS],
     readers: &'a [u64; Engine::DATABASES],
     forwards: &'a [u64; Engine::DATABASES],
@@ -240,12 +262,12 @@ pub(crate) fn show<'a>(
     let mut height = 0usize;
     let mut turn = 0usize;
     while turn < 2 {
-        begin(&mut out, &mut at, turn, height, s);
+        begin(rt, &mut out, &mut at, turn, height, s);
         height = whole(
-            &mut out, &mut at, roles, readers, forwards, counts, roots, reaches, versions, denies,
-            rolesets, s,
+            rt, &mut out, &mut at, roles, readers, forwards, counts, roots, reaches, versions,
+            denies, rolesets, s,
         );
         turn += 1;
     }
-    end(&mut out, &mut at);
+    end(rt, &mut out, &mut at);
 }

@@ -33,20 +33,28 @@ fn common(roles: &[u64; Engine::USERS], r: usize, o: usize) -> usize {
 }
 
 // A user's name. Where a line is full, the text goes on in a new one; k users stand before this one.
-fn user(out: &mut [u8; ROOM], at: &mut usize, u: usize, k: usize, y: usize) -> usize {
+fn user(
+    rt: HostRuntime,
+    out: &mut [u8; ROOM],
+    at: &mut usize,
+    u: usize,
+    k: usize,
+    y: usize,
+) -> usize {
     let mut now = y;
     if k != 0 && k % ON_A_LINE == 0 {
         now = numbers::plus(y, LINE);
-        shapes::end_text(out, at);
-        shapes::begin_text(out, at, b'n', 40, now);
+        shapes::end_text(rt, out, at);
+        shapes::begin_text(rt, out, at, b'n', 40, now);
     }
-    page::text(out, at, b" u");
-    page::hex(out, at, u, 2);
+    page::text(rt, out, at, b" u");
+    page::hex(rt, out, at, u, 2);
     now
 }
 
 // The names of those who hold both roles, in an open text. Gives the height of its last line.
 fn users(
+    rt: HostRuntime,
     out: &mut [u8; ROOM],
     at: &mut usize,
     roles: &[u64; Engine::USERS],
@@ -59,7 +67,7 @@ fn users(
     let mut u = 0;
     while u < Engine::USERS {
         if holds_both(lent::row(roles, u), r, o) {
-            now = user(out, at, u, k, now);
+            now = user(rt, out, at, u, k, now);
             k = numbers::plus(k, 1);
         }
         u += 1;
@@ -69,38 +77,40 @@ fn users(
 
 // What stands on the edge from role r to role o, in an open text.
 pub(crate) fn on_edge(
+    rt: HostRuntime,
     out: &mut [u8; ROOM],
     at: &mut usize,
     roles: &[u64; Engine::USERS],
     r: usize,
     o: usize,
 ) {
-    page::named(out, at, b'R', r);
-    page::byte(out, at, b':');
+    page::named(rt, out, at, b'R', r);
+    page::byte(rt, out, at, b':');
     let n = common(roles, r, o);
     if n <= FIT {
-        users(out, at, roles, r, o, 0);
+        users(rt, out, at, roles, r, o, 0);
         return;
     }
-    page::byte(out, at, b' ');
-    page::decimal(out, at, n);
-    page::text(out, at, b" users, listed below");
+    page::byte(rt, out, at, b' ');
+    page::decimal(rt, out, at, n);
+    page::text(rt, out, at, b" users, listed below");
 }
 
 // Which two roles a list is of, or which one.
-fn pair(out: &mut [u8; ROOM], at: &mut usize, r: usize, o: usize) {
-    page::named(out, at, b'R', r);
+fn pair(rt: HostRuntime, out: &mut [u8; ROOM], at: &mut usize, r: usize, o: usize) {
+    page::named(rt, out, at, b'R', r);
     if r == o {
-        page::text(out, at, b" is held by");
+        page::text(rt, out, at, b" is held by");
         return;
     }
-    page::text(out, at, b" and ");
-    page::named(out, at, b'R', o);
-    page::text(out, at, b" are held by");
+    page::text(rt, out, at, b" and ");
+    page::named(rt, out, at, b'R', o);
+    page::text(rt, out, at, b" are held by");
 }
 
 // The users who hold both roles, where an edge has no room for them. Gives the height below them.
 fn note(
+    rt: HostRuntime,
     out: &mut [u8; ROOM],
     at: &mut usize,
     roles: &[u64; Engine::USERS],
@@ -111,10 +121,10 @@ fn note(
     if common(roles, r, o) <= FIT {
         return y;
     }
-    shapes::begin_text(out, at, b'n', 24, y);
-    pair(out, at, r, o);
-    let last = users(out, at, roles, r, o, y);
-    shapes::end_text(out, at);
+    shapes::begin_text(rt, out, at, b'n', 24, y);
+    pair(rt, out, at, r, o);
+    let last = users(rt, out, at, roles, r, o, y);
+    shapes::end_text(rt, out, at);
     numbers::plus(last, LINE)
 }
 
@@ -128,6 +138,7 @@ fn is_first(may: u64, r: usize, o: usize) -> bool {
 
 // The lists of the edges that leave role r.
 fn notes_from(
+    rt: HostRuntime,
     out: &mut [u8; ROOM],
     at: &mut usize,
     roles: &[u64; Engine::USERS],
@@ -139,7 +150,7 @@ fn notes_from(
     let mut o = 0;
     while o < Engine::ROLES {
         if is_first(may, r, o) {
-            now = note(out, at, roles, r, o, now);
+            now = note(rt, out, at, roles, r, o, now);
         }
         o += 1;
     }
@@ -148,6 +159,7 @@ fn notes_from(
 
 // All lists, of the roles that may read some flow.
 pub(crate) fn notes(
+    rt: HostRuntime,
     out: &mut [u8; ROOM],
     at: &mut usize,
     roles: &[u64; Engine::USERS],
@@ -158,7 +170,7 @@ pub(crate) fn notes(
     let mut r = 0;
     while r < Engine::ROLES {
         if sets::contains(may, r) {
-            now = notes_from(out, at, roles, may, r, now);
+            now = notes_from(rt, out, at, roles, may, r, now);
         }
         r += 1;
     }

@@ -5,7 +5,7 @@
 
 ghost use Rattle.io.specs.Counts.{IsPrefixLen};
 
-use libc::STDIN_FILENO;
+use std::io::Error;
 use streams::Read;
 use trace::LIMIT;
 
@@ -16,13 +16,14 @@ const ROOM: usize = LIMIT + 1;
 const SENTENCE: usize = 128;
 
 // Reads until the input ends, the buffer is full, or the input can't be read.
-fn fill(file: &mut [u8]) -> Read
+fn fill(rt: HostRuntime, file: &mut [u8]) -> Read
     ensures { IsPrefixLen result.end file.new }
 {
+    let mut source = rt.stdin();
     let mut end = 0usize;
     while end < file.len() {
-        let read = streams::read_behind(STDIN_FILENO, file, end);
-        if read.failed {
+        let read = streams::read_behind(rt, &mut source, file, end);
+        if read.failure.is_some() {
             return read;
         }
         if read.end <= end {
@@ -32,42 +33,50 @@ fn fill(file: &mut [u8]) -> Read
     }
     Read {
         end: file.len(),
-        failed: false,
+        failure: None,
     }
 }
 
 // Says that the input can't be read after these bytes of it.
-fn say(bytes: &[u8]) {
+fn say(rt: HostRuntime, bytes: &[u8], failure: Error) {
     let lines = streams::lines_and(0, bytes);
     let mut text = [0u8; SENTENCE];
     streams::say_after(
+        rt,
         &mut text,
         b"replay: lines after line ",
         lines,
         b" were not read",
+        failure,
     );
 }
 
 // Goes over a recorded run and writes its line.
-fn show(bytes: &[u8]) {
+fn show(rt: HostRuntime, bytes: &[u8]) {
     let line = trace::printed_line(trace::replay(bytes));
     let text = line.bytes;
     let end = streams::within(line.len, &text);
-    streams::write_or_say(&text[..end], b"replay: the number was not written");
+    let mut output = rt.stdout();
+    streams::write_or_say(
+        rt,
+        &mut output,
+        &text[..end],
+        b"replay: the number was not written",
+    );
 }
 
 // Reads a recorded run into a buffer and goes over it.
-fn run(file: &mut [u8]) {
-    let read = fill(file);
+fn run(rt: HostRuntime, file: &mut [u8]) {
+    let read = fill(rt, file);
     let end = read.end;
-    if read.failed {
-        say(&file[..end]);
+    if let Some(failure) = read.failure {
+        say(rt, &file[..end], failure);
         return;
     }
-    show(&file[..end]);
+    show(rt, &file[..end]);
 }
 
-fn main() {
+fn main(rt: HostRuntime) {
     let mut file = [0u8; ROOM];
-    run(&mut file);
+    run(rt, &mut file);
 }

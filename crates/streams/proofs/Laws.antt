@@ -1,4 +1,4 @@
--- Counting line feeds, byte by byte and block by block; putting a sentence together, part by part; what stays before a part that is lent.
+-- Counting line feeds, byte by byte and block by block; putting a sentence together, part by part; what stays before a part that is lent, and what is read into it.
 -- Assumes nothing.
 use Prim.Native.Nat.{ℕ, zero, suc, ◌+◌, ◌-◌, ◌≤◌, ◌<◌, min}
 use mathlib.Core.Path.{◌≡◌, refl, sym, ap, ◌∙◌}
@@ -12,6 +12,11 @@ use lib.Seq.{drop-cons, drop-drop, drop-length, take-nil, take_at, drop_at, past
 use borrow.Author.Tests.{eq-eqb, ne_eqb}
 use borrow.Rule.Slice.PartMut.{put_mid, take_put}
 use Rattle.io.specs.Digits.{last_digits, IsDigitCount}
+use Rattle.std.proofs.Common.{subst}
+use Rattle.std.proofs.BufReadLemmas.{drop-take_min}
+use Rattle.std.proofs.lemmas.List.{take_rest, take-append-le}
+use Rattle.std.specs.Io.KnownBytes.{Appends, Consumes}
+use Rattle.std.specs.declared.option.Option.{Option}
 use Rattle.streams.specs.Feeds.{feed, feeds, FeedsMean}
 use Rattle.streams.specs.Said.{Placed, Begins, Said}
 
@@ -196,3 +201,26 @@ stays n a k xs ys e l =
     let to : length (take n new) ≡ a = length-take n new ∙ omega (arith, e, l) in
     let from : length (take n xs) ≡ a = length-take n xs ∙ sym e in
     sym (take_count n new) ∙ ap (λ (m : ℕ). take m new) to ∙ take_put a k xs ys (omega (arith, e)) ∙ ap (λ (m : ℕ). take m xs) (sym from) ∙ take_count n xs
+
+-- ---- what is read and written
+
+-- what stands between two places of a list, where the first may be past its end
+between_places : (place at n end : ℕ) (xs : List ℕ) → at ≡ min place (length xs) → n ≤ length xs - at → end ≡ min (at + n) (length xs) → drop place (take end xs) ≡ take n (drop at xs)
+between_places place at n end xs e l f =
+    let first : at ≡ min place end = omega (arith, e, l, f) in
+    let many : end - at ≡ n = omega (arith, e, l, f) in
+    drop-take_min xs end place at first ∙ ap (λ (k : ℕ). take k (drop at xs)) many
+
+-- a write of the rest of a list takes the first n of it
+pub put_out : (a b : Option (List ℕ)) (place at n end : ℕ) (xs : List ℕ) → at ≡ min place (length xs) → n ≤ length (take (length xs - at) (drop at xs)) → end ≡ min (at + n) (length xs) → Appends a b (take n (take (length xs - at) (drop at xs))) → Appends a b (drop place (take end xs))
+put_out a b place at n end xs e l f p =
+    let few : n ≤ length xs - at = omega (arith, l, length-take (length xs - at) (drop at xs)) in
+    let all : take (length xs - at) (drop at xs) ≡ drop at xs = take_rest xs at in
+    subst (Appends a b) (ap (take n) all ∙ sym (between_places place at n end xs e few f)) p
+
+-- what is read into a part of a buffer stands behind its front
+pub got_in : (a b : Option (List ℕ)) (n at r end : ℕ) (head part tail : List ℕ) → length head ≡ at → at ≡ min n (length (head ++ (part ++ tail))) → r ≤ length part → end ≡ min (at + r) (length (head ++ (part ++ tail))) → Consumes a b (take r part) → Consumes a b (drop n (take end (head ++ (part ++ tail))))
+got_in a b n at r end head part tail long e l f p =
+    let all : List ℕ = head ++ (part ++ tail) in
+    let few : r ≤ length all - at = omega (arith, l, long, length-append head (part ++ tail), length-append part tail) in
+    subst (Consumes a b) (sym (between_places n at r end all e few f ∙ ap (take r) (drop_at head (part ++ tail) at long) ∙ take-append-le r part tail l)) p

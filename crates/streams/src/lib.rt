@@ -1,38 +1,50 @@
 // The streams of a program: an input is read behind what a buffer holds already, all bytes are written to
-// standard output, and a failure is said in a line on standard error. Nothing here knows what the bytes
-// say.
+// an output, and a failure is said in a line on standard error. Nothing here knows what the bytes say.
 //
 // A call that a signal interrupts is made again, and one on a descriptor that does not block after a
-// short sleep. What is read or written no contract can say: counts are within the buffers, and the
-// sentence about a failure is promised as it stands in the text that is lent for it.
+// short sleep. Counts are within the buffers, and the sentence about a failure is promised as it stands in
+// the text that is lent for it. What a file, a pipe or a terminal gives or takes no contract can say: of a
+// reader and a writer whose bytes are known, it is promised that those are the ones in the buffers.
 #![tactic(auto)]
 
-ghost use Rattle.std.specs.Prelude.{◌+◌, ◌≤◌, min, ◌≡◌, length, take};
+ghost use Rattle.std.specs.Prelude.{◌+◌, ◌≤◌, ◌<◌, min, ◌≡◌, length, take, drop, None};
+ghost use Rattle.std.specs.Io.KnownBytes.{Appends, Consumes, IsAtEnd};
 ghost use Rattle.io.specs.Counts.{IsPrefixLen};
 ghost use Rattle.streams.specs.Feeds.{feeds};
 ghost use Rattle.streams.specs.Feeds.{feed as Feeds·feed};
 ghost use Rattle.streams.specs.Said.{Placed, Said};
 
-use libc::STDOUT_FILENO;
-use libc::types::timespec;
+use std::io::{Error, ErrorKind, Print};
+use std::time::Duration;
+use std::{fmt, thread};
 
 // How many bytes are counted at once: so few that the count fits a byte, which lets the compiler count
 // many of them in one step.
 const BLOCK: usize = 128;
 
-// The place that the input has come to in its buffer, and whether it could be read. At the end of the
-// input the place is where it was.
+// How many bytes of a reason there is room for: more than any has, with its number.
+const REASON: usize = 128;
+
+// The place that the input has come to in its buffer, and why it could not be read, where it couldn't. At
+// the end of the input the place is where it was.
 #[derive(Drop)]
 pub struct Read {
     pub end: usize,
-    pub failed: bool,
+    pub failure: Option<Error>,
 }
 
-// The place that the output has come to, and whether it may go on.
+// The place that the output has come to, and why it could not be written, where it couldn't.
 #[derive(Drop)]
-struct Put {
-    from: usize,
-    more: bool,
+pub struct Written {
+    pub end: usize,
+    pub failure: Option<Error>,
+}
+
+// The words for a reason, at the start of their bytes.
+#[derive(Drop)]
+struct Reason {
+    bytes: [u8; REASON],
+    end: usize,
 }
 
 // n, or the length where n is more.
@@ -43,109 +55,133 @@ pub fn within(n: usize, bytes: &[u8]) -> usize
     if n < bytes.len() { n } else { bytes.len() }
 }
 
-// Sleeps for a millisecond, or for less where a signal comes.
-fn pause() {
-    let asked = timespec {
-        tv_sec: 0,
-        tv_nsec: 1000000,
-    };
-    let mut left = timespec {
-        tv_sec: 0,
-        tv_nsec: 0,
-    };
-    libc::nanosleep(&asked, &mut left);
+// Sleeps for a millisecond.
+fn pause(rt: HostRuntime) {
+    thread::sleep(&rt, Duration::from_millis(1));
 }
 
-// Whether the call that failed just now is to be made again. Before one that would have to wait it
-// sleeps, since the descriptor does not.
-fn is_passing() -> bool {
-    let error = os::errno();
-    if error == libc::EAGAIN {
-        pause();
-        return true;
+// Whether the call that failed so is to be made again. Before one that would have to wait it sleeps,
+// since the descriptor does not.
+fn is_passing(rt: HostRuntime, failure: Error) -> bool {
+    match failure.kind() {
+        ErrorKind::WouldBlock => {
+            pause(rt);
+            true
+        }
+        ErrorKind::Interrupted => true,
+        _ => false,
     }
-    error == libc::EINTR
 }
 
 // One read, made again as long as that may help.
-fn read_some(fd: i32, bytes: &mut [u8]) -> Read
-    ensures { IsPrefixLen result.end bytes.new }
+fn read_some<R: std::io::Read>(rt: HostRuntime, source: &mut R, bytes: &mut [u8]) -> Read
+    ensures prefix_len { IsPrefixLen result.end bytes.new }
+    ensures consumed { Consumes (R.remaining source.old) (R.remaining source.new) (take result.end bytes.new) }
+    ensures at_end { result.failure ≡ None → result.end ≡ 0 → 0 < length bytes.old → IsAtEnd (R.remaining source.new) }
 {
-    let mut turns = u64::MAX;
-    while 0 < turns {
-        let got = libc::read(fd, bytes);
-        if 0 <= got {
-            return Read {
-                end: io::count(got, bytes),
-                failed: false,
-            };
+    for _ in 0..u64::MAX {
+        match source.read(bytes) {
+            Ok(end) => return Read { end, failure: None },
+            Err(failure) => {
+                if !is_passing(rt, failure) {
+                    return Read {
+                        end: 0,
+                        failure: Some(failure),
+                    };
+                }
+            }
         }
-        if !is_passing() {
-            break;
-        }
-        turns -= 1;
     }
     Read {
         end: 0,
-        failed: true,
+        failure: Some(Error::from(ErrorKind::Interrupted)),
     }
 }
 
-// Reads from a descriptor behind the first n bytes of a buffer, which stay.
-pub fn read_behind(fd: i32, input: &mut [u8], n: usize) -> Read
+// Reads from a source behind the first n bytes of a buffer, which stay.
+pub fn read_behind<R: std::io::Read>(
+    rt: HostRuntime,
+    source: &mut R,
+    input: &mut [u8],
+    n: usize,
+) -> Read
     ensures prefix_len { IsPrefixLen result.end input.new }
     ensures input_bound { min n (length input.old) ≤ result.end }
     ensures input_unchanged { take n input.new ≡ take n input.old }
+    ensures consumed { Consumes (R.remaining source.old) (R.remaining source.new) (drop n (take result.end input.new)) }
+    ensures at_end { result.failure ≡ None → result.end ≤ n → n < length input.old → IsAtEnd (R.remaining source.new) }
 {
     let from = within(n, input);
-    let got = read_some(fd, &mut input[from..]);
+    let got = read_some(rt, source, &mut input[from..]);
     let end = from + got.end;
     Read {
         end: within(end, input),
-        failed: got.failed,
+        failure: got.failure,
     }
 }
 
 // One write, from a place on. A write that takes nothing is the last, since it would be made for ever.
-fn write_some(bytes: &[u8], place: usize) -> Put
-    ensures { IsPrefixLen result.from bytes.now }
+fn write_some<W: std::io::Write>(
+    rt: HostRuntime,
+    output: &mut W,
+    bytes: &[u8],
+    place: usize,
+) -> Written
+    ensures prefix_len { IsPrefixLen result.end bytes.now }
+    ensures grows { min place (length bytes.now) ≤ result.end }
+    ensures appended { Appends (W.contents output.old) (W.contents output.new) (drop place (take result.end bytes.now)) }
 {
     let from = within(place, bytes);
-    let rest = &bytes[from..];
-    let put = libc::write(STDOUT_FILENO, rest);
-    if put < 0 {
-        let more = is_passing();
-        return Put { from, more };
-    }
-    let end = from + io::count(put, rest);
-    Put {
-        from: within(end, bytes),
-        more: 0 < put,
+    match output.write(&bytes[from..]) {
+        Ok(0) => Written {
+            end: from,
+            failure: Some(Error::from(ErrorKind::WriteZero)),
+        },
+        Ok(n) => Written {
+            end: within(from + n, bytes),
+            failure: None,
+        },
+        Err(failure) => Written {
+            end: from,
+            failure: if is_passing(rt, failure) {
+                None
+            } else {
+                Some(failure)
+            },
+        },
     }
 }
 
 // Writes all bytes, in as many writes as it takes, and gives how many were written: fewer than all
-// only where the output can't be written.
-pub fn write_all(bytes: &[u8]) -> usize
-    ensures { IsPrefixLen result bytes.now }
+// only where the output can't be written, and then why.
+pub fn write_all<W: std::io::Write>(rt: HostRuntime, output: &mut W, bytes: &[u8]) -> Written
+    ensures prefix_len { IsPrefixLen result.end bytes.now }
+    ensures appended { Appends (W.contents output.old) (W.contents output.new) (take result.end bytes.now) }
+    ensures whole { result.failure ≡ None → result.end ≡ length bytes.now }
 {
     let mut from = 0usize;
-    let mut turns = u64::MAX;
-    while 0 < turns {
+    for _ in 0..u64::MAX {
         if bytes.len() <= from {
             break;
         }
-        let put = write_some(bytes, from);
-        from = put.from;
-        if !put.more {
-            break;
+        let put = write_some(rt, output, bytes, from);
+        if put.failure.is_some() {
+            return put;
         }
-        turns -= 1;
+        from = put.end;
     }
-    within(from, bytes)
+    Written {
+        end: within(from, bytes),
+        failure: if from < bytes.len() {
+            Some(Error::from(ErrorKind::Interrupted))
+        } else {
+            None
+        },
+    }
 }
 
 // 1 for a line feed.
+#[tactic(auto, unfolding(crate::specs::Feeds::feed))]
 fn feed(byte: u8) -> u8
     ensures { result ≡ Feeds·feed byte }
 {
@@ -227,19 +263,61 @@ fn copy_to(text: &mut [u8], place: usize, bytes: &[u8]) -> usize
     at
 }
 
-// Says in a line on standard error what failed, and the reason of the call that failed just now. A pipe
-// that its reader has closed is no failure: whoever reads the first lines only has what was asked for.
-fn say(what: &[u8]) {
-    if os::errno() == libc::EPIPE {
+impl fmt::Write for Reason {
+    fn write_str(&mut self, words: &str) -> fmt::Result {
+        self.end = copy_to(&mut self.bytes, self.end, words.as_bytes());
+        Ok(())
+    }
+}
+
+// How many of a reason's bytes are its words, without the number in parentheses that std writes behind
+// those of the system.
+fn words_end(failure: Error, bytes: &[u8]) -> usize
+    ensures { IsPrefixLen result bytes.now }
+{
+    let mut end = bytes.len();
+    if failure.raw_os_error().is_none() {
+        return end;
+    }
+    while 0 < end {
+        end -= 1;
+        if bytes[end] == b'(' {
+            return end.saturating_sub(1);
+        }
+    }
+    bytes.len()
+}
+
+// Says in a line on standard error what failed, and the reason. A pipe that its reader has closed is no
+// failure: whoever reads the first lines only has what was asked for.
+pub fn say(rt: HostRuntime, what: &[u8], failure: Error) {
+    if let ErrorKind::BrokenPipe = failure.kind() {
         return;
     }
-    os::fail(what);
+    let mut reason = Reason {
+        bytes: [0u8; REASON],
+        end: 0,
+    };
+    let _ = fmt::Write::write(&mut reason, failure);
+    let filled = within(reason.end, &reason.bytes);
+    let words = words_end(failure, &reason.bytes[..filled]);
+    let errors = rt.stderr();
+    let _ = errors.write_all(what);
+    let _ = errors.write_all(b": ");
+    let _ = errors.write_all(&reason.bytes[..words]);
+    let _ = errors.write_all(b"\n");
 }
 
 // Says that something failed: two parts with a number between them, and the reason. The sentence is put
-// together first, at the start of a text that is lent, so that no call comes between the one that failed
-// and the look at its reason. It gives how many bytes the sentence has there.
-pub fn say_after(text: &mut [u8], before: &[u8], n: u64, behind: &[u8]) -> usize
+// together first, at the start of a text that is lent. It gives how many bytes the sentence has there.
+pub fn say_after(
+    rt: HostRuntime,
+    text: &mut [u8],
+    before: &[u8],
+    n: u64,
+    behind: &[u8],
+    failure: Error,
+) -> usize
     ensures { Said text.old before.now n behind.now text.new result }
 {
     let mut digits = [0u8; 20];
@@ -247,17 +325,23 @@ pub fn say_after(text: &mut [u8], before: &[u8], n: u64, behind: &[u8]) -> usize
     let from = copy_to(text, 0, before);
     let to = copy_to(text, from, &digits[..k]);
     let end = copy_to(text, to, behind);
-    say(&text[..end]);
+    say(rt, &text[..end], failure);
     end
 }
 
 // Writes all bytes, and says what failed where not all are written. It gives how many were.
-pub fn write_or_say(bytes: &[u8], what: &[u8]) -> usize
-    ensures { IsPrefixLen result bytes.now }
+pub fn write_or_say<W: std::io::Write>(
+    rt: HostRuntime,
+    output: &mut W,
+    bytes: &[u8],
+    what: &[u8],
+) -> usize
+    ensures prefix_len { IsPrefixLen result bytes.now }
+    ensures appended { Appends (W.contents output.old) (W.contents output.new) (take result bytes.now) }
 {
-    let written = write_all(bytes);
-    if written < bytes.len() {
-        say(what);
+    let written = write_all(rt, output, bytes);
+    if let Some(failure) = written.failure {
+        say(rt, what, failure);
     }
-    written
+    written.end
 }

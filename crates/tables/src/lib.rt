@@ -7,7 +7,7 @@
 
 pub mod lent;
 
-#[derive(Drop)]
+#[derive(Clone, Copy)]
 pub struct Tables {
     // Row u: the roles that user u holds.
     pub roles: [u64; Tables::USERS],

@@ -10,18 +10,18 @@ use tables_by_value::{
 // Every number that a set can hold.
 const ALL: u64 = 0xffff_ffff_ffff_ffff;
 
-fn main() {
+fn main(rt: HostRuntime) {
     let t = worked();
-    limits();
-    flows(t);
-    pairs(t);
-    chain(t);
-    withdrawn(t);
-    undone(t);
-    nothing_there(t);
-    nothing_entered(t);
-    nothing_struck(t);
-    mandates(t);
+    limits(rt);
+    flows(rt, t);
+    pairs(rt, t);
+    chain(rt, t);
+    withdrawn(rt, t);
+    undone(rt, t);
+    nothing_there(rt, t);
+    nothing_entered(rt, t);
+    nothing_struck(rt, t);
+    mandates(rt, t);
 }
 
 // User 1 holds roles 0, 1 and 2, and user 2 role 0. Role 0 may read database 0, and role 1
@@ -38,54 +38,54 @@ fn worked() -> Tables {
 }
 
 // How many users, roles and databases there are.
-fn limits() {
-    line(Tables::USERS as u64);
-    line(Tables::ROLES as u64);
-    line(Tables::DATABASES as u64);
+fn limits(rt: HostRuntime) {
+    line(rt, Tables::USERS as u64);
+    line(rt, Tables::ROLES as u64);
+    line(rt, Tables::DATABASES as u64);
 }
 
 // The reach of 0 and of 1, each with its size. Who may read the reach of 1: the roles, then user 1
 // and user 2. The parents of role 2.
-fn flows(t: Tables) {
-    line(reach(t, 0));
-    count(reach_size(t, 0));
-    line(reach(t, 1));
-    count(reach_size(t, 1));
+fn flows(rt: HostRuntime, t: Tables) {
+    line(rt, reach(t, 0));
+    count(rt, reach_size(t, 0));
+    line(rt, reach(t, 1));
+    count(rt, reach_size(t, 1));
     let s = reach(t, 1);
-    line(readers(t, s));
-    answer(reads(t, 1, s));
-    answer(reads(t, 2, s));
-    line(parents(t, 4));
+    line(rt, readers(t, s));
+    answer(rt, reads(t, 1, s));
+    answer(rt, reads(t, 2, s));
+    line(rt, parents(t, 4));
 }
 
 // Each table asked for a pair that is there and for one that is not; a role that somebody holds,
 // and one that nobody does.
-fn pairs(t: Tables) {
-    answer(holds(t, 1, 2));
-    answer(holds(t, 2, 2));
-    answer(may_read(t, 1, 1));
-    answer(may_read(t, 1, 0));
-    answer(forwards_to(t, 1, 2));
-    answer(forwards_to(t, 2, 1));
-    answer(held(t, 2));
-    answer(held(t, 3));
+fn pairs(rt: HostRuntime, t: Tables) {
+    answer(rt, holds(t, 1, 2));
+    answer(rt, holds(t, 2, 2));
+    answer(rt, may_read(t, 1, 1));
+    answer(rt, may_read(t, 1, 0));
+    answer(rt, forwards_to(t, 1, 2));
+    answer(rt, forwards_to(t, 2, 1));
+    answer(rt, held(t, 2));
+    answer(rt, held(t, 3));
 }
 
 // 3 forwards to 4, and so on to 63: the reach of 3 and of 63. Then 63 forwards to 3: both again.
 // Then 0 forwards to 1, and 2 to 3, so that the last database is 63 steps from 0.
-fn chain(t: Tables) {
+fn chain(rt: HostRuntime, t: Tables) {
     let t = linked(t);
-    line(reach(t, 3));
-    count(reach_size(t, 3));
-    line(reach(t, 63));
+    line(rt, reach(t, 3));
+    count(rt, reach_size(t, 3));
+    line(rt, reach(t, 63));
     let t = forward(t, 63, 3);
-    line(reach(t, 3));
-    count(reach_size(t, 3));
-    line(reach(t, 63));
+    line(rt, reach(t, 3));
+    count(rt, reach_size(t, 3));
+    line(rt, reach(t, 63));
     let t = forward(t, 0, 1);
     let t = forward(t, 2, 3);
-    line(reach(t, 0));
-    count(reach_size(t, 0));
+    line(rt, reach(t, 0));
+    count(rt, reach_size(t, 0));
 }
 
 // The tables in which also each database from 3 to 62 forwards to the next.
@@ -99,122 +99,122 @@ fn linked(mut t: Tables) -> Tables {
 }
 
 // User 1 loses role 2: nobody holds it, so it has no parent. The user's other roles stay.
-fn withdrawn(t: Tables) {
+fn withdrawn(rt: HostRuntime, t: Tables) {
     let t = withdraw(t, 1, 2);
-    answer(holds(t, 1, 2));
-    answer(held(t, 2));
-    line(parents(t, 4));
-    line(parents(t, 1));
+    answer(rt, holds(t, 1, 2));
+    answer(rt, held(t, 2));
+    line(rt, parents(t, 4));
+    line(rt, parents(t, 1));
 }
 
 // Role 1 may not read database 1 any more: nobody may read the reach of 1, and role 0 still reads
 // database 0. Then 1 does not forward to 2 any more: the reach of 1 is its root.
-fn undone(t: Tables) {
+fn undone(rt: HostRuntime, t: Tables) {
     let t = revoke(t, 1, 1);
-    answer(may_read(t, 1, 1));
+    answer(rt, may_read(t, 1, 1));
     let s = reach(t, 1);
-    line(readers(t, s));
-    answer(reads(t, 1, s));
-    answer(may_read(t, 0, 0));
+    line(rt, readers(t, s));
+    answer(rt, reads(t, 1, s));
+    answer(rt, may_read(t, 0, 0));
     let t = unforward(t, 1, 2);
-    answer(forwards_to(t, 1, 2));
-    line(reach(t, 1));
-    count(reach_size(t, 1));
+    answer(rt, forwards_to(t, 1, 2));
+    line(rt, reach(t, 1));
+    count(rt, reach_size(t, 1));
 }
 
 // Above the limits nothing is there, also where the number less the limit is.
-fn nothing_there(t: Tables) {
-    answer(holds(t, 1, 64));
-    answer(holds(t, 256, 0));
-    answer(holds(t, 257, 0));
-    answer(may_read(t, 64, 0));
-    answer(may_read(t, 0, 64));
-    answer(forwards_to(t, 65, 2));
-    answer(forwards_to(t, 1, 66));
-    answer(held(t, 64));
-    line(reach(t, 64));
-    count(reach_size(t, 64));
-    answer(reads(t, 257, ALL));
+fn nothing_there(rt: HostRuntime, t: Tables) {
+    answer(rt, holds(t, 1, 64));
+    answer(rt, holds(t, 256, 0));
+    answer(rt, holds(t, 257, 0));
+    answer(rt, may_read(t, 64, 0));
+    answer(rt, may_read(t, 0, 64));
+    answer(rt, forwards_to(t, 65, 2));
+    answer(rt, forwards_to(t, 1, 66));
+    answer(rt, held(t, 64));
+    line(rt, reach(t, 64));
+    count(rt, reach_size(t, 64));
+    answer(rt, reads(t, 257, ALL));
 }
 
 // Above the limits nothing is entered, nor at the number less the limit. All parents, all readers
 // and the reach of 0 and of 1 are as before.
-fn nothing_entered(t: Tables) {
+fn nothing_entered(rt: HostRuntime, t: Tables) {
     let t = assign(t, 3, 64);
-    answer(holds(t, 3, 0));
+    answer(rt, holds(t, 3, 0));
     let t = assign(t, 256, 3);
-    answer(held(t, 3));
+    answer(rt, held(t, 3));
     let t = permit(t, 64, 2);
-    answer(may_read(t, 0, 2));
+    answer(rt, may_read(t, 0, 2));
     let t = permit(t, 3, 64);
-    answer(may_read(t, 3, 0));
+    answer(rt, may_read(t, 3, 0));
     let t = forward(t, 64, 5);
-    answer(forwards_to(t, 0, 5));
+    answer(rt, forwards_to(t, 0, 5));
     let t = forward(t, 0, 64);
-    answer(forwards_to(t, 0, 0));
-    line(parents(t, ALL));
-    line(readers(t, ALL));
-    line(reach(t, 0));
-    line(reach(t, 1));
+    answer(rt, forwards_to(t, 0, 0));
+    line(rt, parents(t, ALL));
+    line(rt, readers(t, ALL));
+    line(rt, reach(t, 0));
+    line(rt, reach(t, 1));
 }
 
 // Above the limits nothing is struck out, nor at the number less the limit.
-fn nothing_struck(t: Tables) {
+fn nothing_struck(rt: HostRuntime, t: Tables) {
     let t = withdraw(t, 1, 64);
-    answer(holds(t, 1, 0));
+    answer(rt, holds(t, 1, 0));
     let t = withdraw(t, 257, 1);
-    answer(holds(t, 1, 1));
+    answer(rt, holds(t, 1, 1));
     let t = revoke(t, 64, 0);
-    answer(may_read(t, 0, 0));
+    answer(rt, may_read(t, 0, 0));
     let t = revoke(t, 1, 65);
-    answer(may_read(t, 1, 1));
+    answer(rt, may_read(t, 1, 1));
     let t = unforward(t, 65, 2);
-    answer(forwards_to(t, 1, 2));
+    answer(rt, forwards_to(t, 1, 2));
     let t = unforward(t, 1, 66);
-    answer(forwards_to(t, 1, 2));
+    answer(rt, forwards_to(t, 1, 2));
 }
 
 // Role 1 gets a mandate at database 1, and role 2, which may not read it, at database 0: each asked for
 // before and after, then two pairs that are not there. Above the limits nothing is there and nothing is
 // entered, nor at the number less the limit. The other tables are as before: all parents, all readers,
 // the reach of 0 and of 1. Then role 1 may not read database 1 any more, and its mandate stays.
-fn mandates(t: Tables) {
-    answer(has_mandate(t, 1, 1));
+fn mandates(rt: HostRuntime, t: Tables) {
+    answer(rt, has_mandate(t, 1, 1));
     let t = mandate(t, 1, 1);
-    answer(has_mandate(t, 1, 1));
-    answer(has_mandate(t, 2, 0));
+    answer(rt, has_mandate(t, 1, 1));
+    answer(rt, has_mandate(t, 2, 0));
     let t = mandate(t, 2, 0);
-    answer(has_mandate(t, 2, 0));
-    answer(has_mandate(t, 0, 1));
-    answer(has_mandate(t, 1, 0));
-    answer(has_mandate(t, 65, 1));
-    answer(has_mandate(t, 1, 65));
+    answer(rt, has_mandate(t, 2, 0));
+    answer(rt, has_mandate(t, 0, 1));
+    answer(rt, has_mandate(t, 1, 0));
+    answer(rt, has_mandate(t, 65, 1));
+    answer(rt, has_mandate(t, 1, 65));
     let t = mandate(t, 64, 1);
-    answer(has_mandate(t, 0, 1));
+    answer(rt, has_mandate(t, 0, 1));
     let t = mandate(t, 0, 64);
-    answer(has_mandate(t, 0, 0));
-    line(parents(t, ALL));
-    line(readers(t, ALL));
-    line(reach(t, 0));
-    line(reach(t, 1));
+    answer(rt, has_mandate(t, 0, 0));
+    line(rt, parents(t, ALL));
+    line(rt, readers(t, ALL));
+    line(rt, reach(t, 0));
+    line(rt, reach(t, 1));
     let t = revoke(t, 1, 1);
-    answer(may_read(t, 1, 1));
-    answer(has_mandate(t, 1, 1));
+    answer(rt, may_read(t, 1, 1));
+    answer(rt, has_mandate(t, 1, 1));
 }
 
-fn line(n: u64) {
-    io::print_hex(1, n, 16);
-    io::write_all(1, b"\n");
+// Where a line can't be written there is nobody to tell.
+fn line(rt: HostRuntime, n: u64) {
+    let _ = println!(rt; "{n:016x}");
 }
 
-fn count(n: u32) {
-    line(n as u64);
+fn count(rt: HostRuntime, n: u32) {
+    line(rt, n as u64);
 }
 
-fn answer(b: bool) {
+fn answer(rt: HostRuntime, b: bool) {
     if b {
-        line(1);
+        line(rt, 1);
     } else {
-        line(0);
+        line(rt, 0);
     }
 }

@@ -2,7 +2,7 @@
 -- Assumes nothing.
 use Prim.Native.Nat.{ℕ, zero, suc, ◌+◌, ◌-◌, ◌≤◌, ◌<◌, min}
 use mathlib.Core.Path.{◌≡◌, refl, sym, ap, ◌∙◌}
-use mathlib.Core.Bool.{Bool, true, false, not, true≢false}
+use mathlib.Core.Bool.{Bool, true, false, true≢false}
 use mathlib.Core.List.{List, [], ◌∷◌, ◌++◌}
 use native.Mathlib.Omega.{arith}
 use lib.Dec.{ltb}
@@ -12,7 +12,10 @@ use borrow.Author.Tests.{le-leb, lt-leb}
 use Rattle.protocol.specs.Run.{kept_of}
 use Rattle.pieces.specs.Pieces.{between}
 use Rattle.taking.specs.declared.Held.{Held}
-use Rattle.taking.specs.Taking.{place_behind, under_way, More, Begins, Next}
+use Rattle.taking.specs.Taking.{place_behind, under_way, More, Begins, Next, Taken}
+use Rattle.std.proofs.Common.{subst}
+use Rattle.std.specs.Io.KnownBytes.{Consumes}
+use Rattle.std.specs.declared.option.Option.{Option}
 
 -- ---- the part that is fed
 
@@ -41,14 +44,6 @@ unfolding under_way
 some_taken before from filled l = rw (lt-leb from before l)
 
 -- ---- what is held after a turn
-
-pub is_off : (on : Bool) → not on ≡ true → on ≡ false
-is_off true h = absurd (true≢false (sym h))
-is_off false h = refl
-
-pub is_on : (on : Bool) → not on ≡ false → on ≡ true
-is_on true h = refl
-is_on false h = absurd (true≢false h)
 
 module _ (old : List ℕ) (held : Held) (consumed lines at : ℕ) (on : Bool) where
   -- the output is closed
@@ -91,4 +86,37 @@ module _ (old : List ℕ) (held : Held) (consumed lines at turns : ℕ) (on way 
         closed = λ f. absurd (true≢false (sym e ∙ f));
         rest = λ f g. absurd (true≢false (sym g ∙ is_way ∙ w));
         more = λ f g. rw (← p) begins;
+      }
+
+-- ---- what a source has left after a turn
+
+-- the output is closed
+pub taken_closed : {before after : Option (List ℕ)} {old new : List ℕ} {held : Held} {consumed : ℕ} {on : Bool} {r : Held} → on ≡ false → after ≡ before → Taken before after old new held consumed on r
+taken_closed e same =
+    record {
+      closed = λ f. same;
+      rest = λ f. absurd (true≢false (sym f ∙ e));
+      more = λ f. absurd (true≢false (sym f ∙ e));
+    }
+
+module _ {before after : Option (List ℕ)} {old new : List ℕ} {held : Held} {consumed : ℕ} {on way : Bool} {at : ℕ} {r : Held} where
+  -- something is left
+  pub taken_rest : on ≡ true → at ≡ place_behind held.from consumed → way ≡ under_way held.from at held.filled → way ≡ true → after ≡ before → Taken before after old new held consumed on r
+  taken_rest e p t w same =
+      let is_way : under_way held.from (place_behind held.from consumed) held.filled ≡ way = ap (λ (n : ℕ). under_way held.from n held.filled) (sym p) ∙ sym t in
+      record {
+        closed = λ f. absurd (true≢false (sym e ∙ f));
+        rest = λ f g. same;
+        more = λ f g. absurd (true≢false (sym w ∙ sym is_way ∙ g));
+      }
+
+  -- more is read behind what is kept
+  pub taken_more : {len : ℕ} → on ≡ true → at ≡ place_behind held.from consumed → way ≡ under_way held.from at held.filled → way ≡ false → len ≡ length (kept_of (between old at held.filled)) → Consumes before after (drop len (take r.filled new)) → Taken before after old new held consumed on r
+  taken_more {len} e p t w k m =
+      let is_way : under_way held.from (place_behind held.from consumed) held.filled ≡ way = ap (λ (n : ℕ). under_way held.from n held.filled) (sym p) ∙ sym t in
+      let kept : len ≡ length (kept_of (between old (place_behind held.from consumed) held.filled)) = k ∙ ap (λ (n : ℕ). length (kept_of (between old n held.filled))) p in
+      record {
+        closed = λ f. absurd (true≢false (sym e ∙ f));
+        rest = λ f g. absurd (true≢false (sym g ∙ is_way ∙ w));
+        more = λ f g. subst (λ (n : ℕ). Consumes before after (drop n (take r.filled new))) kept m;
       }

@@ -1,6 +1,8 @@
 -- What a program holds of its input, from turn to turn.
 -- Assumes nothing.
-use Rattle.std.specs.Prelude.{ℕ, ◌+◌, ◌-◌, ◌≤◌, ◌<◌, min, ◌≡◌, Bool, true, false, cond, List, leb, ltb, length, take}
+use Rattle.std.specs.Prelude.{ℕ, ◌+◌, ◌-◌, ◌≤◌, ◌<◌, min, ◌≡◌, Bool, true, false, cond, List, leb, ltb, length, take, drop}
+use Rattle.std.specs.Io.KnownBytes.{Consumes}
+use Rattle.std.specs.declared.option.Option.{Option}
 use Rattle.protocol.specs.Run.{kept_of}
 use Rattle.pieces.specs.Pieces.{between}
 use Rattle.taking.specs.declared.Held.{Held}
@@ -40,3 +42,9 @@ pub record Next (old new : List ℕ) (held : Held) (consumed lines : ℕ) (on : 
   pub closed : on ≡ false → (r.turns ≡ 0) × (r.is_open ≡ false)
   pub rest : on ≡ true → under_way held.from (place_behind held.from consumed) held.filled ≡ true → (new ≡ old) × (r ≡ record { from = place_behind held.from consumed; filled = held.filled; lines = lines; is_open = true; turns = held.turns - 1 })
   pub more : on ≡ true → under_way held.from (place_behind held.from consumed) held.filled ≡ false → Begins new (kept_of (between old (place_behind held.from consumed) held.filled)) r
+
+-- what a source has left before and after a turn: it is as it was where nothing is read, and else the bytes that it gave stand behind those that are kept
+pub record Taken (before after : Option (List ℕ)) (old new : List ℕ) (held : Held) (consumed : ℕ) (on : Bool) (r : Held) : Type 0 where
+  pub closed : on ≡ false → after ≡ before
+  pub rest : on ≡ true → under_way held.from (place_behind held.from consumed) held.filled ≡ true → after ≡ before
+  pub more : on ≡ true → under_way held.from (place_behind held.from consumed) held.filled ≡ false → Consumes before after (drop (length (kept_of (between old (place_behind held.from consumed) held.filled))) (take r.filled new))

@@ -1,16 +1,18 @@
-// Standard input in pieces of any size, for the programs that take frames. A program owns the buffer and
-// feeds what `part` gives of it; `next` says what is to be fed then, and reads more where that is needed.
+// An input in pieces of any size, for the programs that take frames. A program owns the buffer and feeds
+// what `part` gives of it; `next` says what is to be fed then, and reads more where that is needed.
 //
-// What is read no contract can say. What is promised is how one turn follows another: the rest of what was
-// read is fed, or what has to be kept of it stands before what is read behind it. Each turn leaves fewer,
-// so that a program's loop ends.
+// What a file, a pipe or a terminal gives no contract can say. What is promised is how one turn follows
+// another: the rest of what was read is fed, or what has to be kept of it stands before what is read behind
+// it. Of a source whose bytes are known, those that it gave are the ones that stand there. Each turn leaves
+// fewer, so that a program's loop ends.
 #![tactic(auto)]
 
-ghost use Rattle.std.specs.Prelude.{◌-◌, ◌≡◌};
+ghost use Rattle.std.specs.Prelude.{◌-◌, ◌≡◌, take, drop};
+ghost use Rattle.std.specs.Io.KnownBytes.{Consumes};
 ghost use Rattle.pieces.specs.Pieces.{between};
-ghost use Rattle.taking.specs.Taking.{start, place_behind, under_way, More, Next};
+ghost use Rattle.taking.specs.Taking.{start, place_behind, under_way, More, Next, Taken};
 
-use libc::STDIN_FILENO;
+use std::io::Read;
 
 // How many bytes are read at once.
 pub const BUFFER: usize = 65536;
@@ -86,19 +88,28 @@ fn fewer(turns: u64) -> u64
 // What is to be fed after more is read behind the first bytes of the buffer. Where the input can't be
 // read it says so, with the program's words before the number of the line: the input has not ended then,
 // and its unfinished line stays unanswered.
-fn more(input: &mut [u8; BUFFER], len: usize, lines: u64, turns: u64, words: &[u8]) -> Held
-    ensures { More input.old input.new len lines turns result }
+fn more<R: Read>(
+    rt: HostRuntime,
+    source: &mut R,
+    input: &mut [u8; BUFFER],
+    len: usize,
+    lines: u64,
+    turns: u64,
+    words: &[u8],
+) -> Held
+    ensures held { More input.old input.new len lines turns result }
+    ensures consumed { Consumes (R.remaining source.old) (R.remaining source.new) (drop len (take result.filled input.new)) }
 {
-    let read = streams::read_behind(STDIN_FILENO, input, len);
-    if read.failed {
+    let read = streams::read_behind(rt, source, input, len);
+    if let Some(failure) = read.failure {
         let mut text = [0u8; SENTENCE];
-        streams::say_after(&mut text, words, lines, b" were not read");
+        streams::say_after(rt, &mut text, words, lines, b" were not read", failure);
     }
     Held {
         from: 0,
         filled: read.end,
         lines,
-        is_open: !read.failed,
+        is_open: read.failure.is_none(),
         turns: if read.end <= len { 0 } else { turns },
     }
 }
@@ -106,7 +117,9 @@ fn more(input: &mut [u8; BUFFER], len: usize, lines: u64, turns: u64, words: &[u
 // What is to be fed after this many bytes were taken and this many lines are answered: the rest, where
 // lines may be left in it; else more is read behind what is left. Nothing where the output is closed.
 // The words begin the sentence about input that can't be read.
-pub fn next(
+pub fn next<R: Read>(
+    rt: HostRuntime,
+    source: &mut R,
     input: &mut [u8; BUFFER],
     held: Held,
     consumed: usize,
@@ -114,7 +127,8 @@ pub fn next(
     is_open: bool,
     words: &[u8],
 ) -> Held
-    ensures { Next input.old input.new held consumed lines is_open result }
+    ensures held { Next input.old input.new held consumed lines is_open result }
+    ensures source { Taken (R.remaining source.old) (R.remaining source.new) input.old input.new held consumed is_open result }
 {
     let from = behind(held.from, consumed);
     if !is_open {
@@ -137,5 +151,5 @@ pub fn next(
         };
     }
     let len = pieces::keep(input, from, held.filled);
-    more(input, len, lines, turns, words)
+    more(rt, source, input, len, lines, turns, words)
 }

@@ -1,6 +1,7 @@
 mod Finding
 mod Lines
 mod Going
-mod Printed
+mod PrintedLines
 mod Pairs
+mod Ending
 pub mod Recorded

@@ -3,41 +3,73 @@
 // answer.
 #![tactic(auto)]
 
-use libc::STDOUT_FILENO;
+ghost use Rattle.io.specs.Counts.{IsPrefixLen};
+
+use std::env::{Env, FillError};
+use std::fs::File;
+use std::io::{Error, ErrorKind, Print, Read};
+use std::str;
 use trace::LIMIT;
 
 // How many bytes the longest of them has.
 const ROOM: usize = LIMIT + 1;
 
-// Goes over a recorded run and writes its line.
-fn show(run: &[u8]) {
+// Goes over a recorded run and writes its line. Where it can't be written there is nobody to tell.
+fn show(rt: HostRuntime, run: &[u8]) {
     let line = trace::printed_line(trace::replay(run));
     let text = line.bytes;
     let end = streams::within(line.len, &text);
-    io::write_all(STDOUT_FILENO, &text[..end]);
+    let _ = rt.write_all(&text[..end]);
 }
 
-// Tries the run in the file that argument i names.
-fn try_named(file: &mut [u8], i: usize) {
-    let mut path = io::buffer();
-    let length = os::arg(i, &mut path);
-    let fd = os::open_read(&path[..length]);
-    if fd < 0 {
-        os::fail(&path[..length]);
-        return;
+// Opens the file that a path names.
+fn open(rt: HostRuntime, path: &[u8]) -> Result<File, Error> {
+    match str::from_utf8(path) {
+        Ok(path) => File::open(&rt, path),
+        Err(_) => Err(Error::from(ErrorKind::InvalidFilename)),
     }
-    let end = io::read_full(fd, file);
-    libc::close(fd);
-    show(&file[..end]);
+}
+
+// Reads until the buffer is full, the file ends or can't be read.
+fn read_full(source: &mut File, file: &mut [u8]) -> usize
+    ensures { IsPrefixLen result file.new }
+{
+    let mut end = 0usize;
+    while end < file.len() {
+        match source.read(&mut file[end..]) {
+            Ok(0) => break,
+            Ok(n) => end += n,
+            Err(_) => break,
+        }
+    }
+    end
+}
+
+// Tries the run in the file that argument i names, and gives whether there is such an argument. One that
+// is too long for a path counts as empty, and names no file.
+fn try_named(rt: HostRuntime, file: &mut [u8], i: usize) -> bool {
+    let mut path = io::buffer();
+    let length = match rt.arg(i, &mut path) {
+        Ok(length) => length,
+        Err(FillError::TooLong) => 0,
+        Err(FillError::NotPresent) => return false,
+    };
+    match open(rt, &path[..length]) {
+        Ok(mut source) => {
+            let end = read_full(&mut source, file);
+            show(rt, &file[..end]);
+        }
+        Err(failure) => streams::say(rt, &path[..length], failure),
+    }
+    true
 }
 
 // Tries the runs in all files.
-fn try_stored(file: &mut [u8]) {
-    let count = os::arg_count();
-    let mut i = 1usize;
-    while i < count {
-        try_named(file, i);
-        i += 1;
+fn try_stored(rt: HostRuntime, file: &mut [u8]) {
+    for i in 1..usize::MAX {
+        if !try_named(rt, file, i) {
+            break;
+        }
     }
 }
 
@@ -68,30 +100,30 @@ fn spoil(file: &mut [u8]) {
 }
 
 // Tries the first n bytes.
-fn try_first(file: &[u8], n: usize) {
+fn try_first(rt: HostRuntime, file: &[u8], n: usize) {
     let end = streams::within(n, file);
-    show(&file[..end]);
+    show(rt, &file[..end]);
 }
 
 // Tries made runs: with one byte less than a run may have, with as many, with one more; and the last two
 // with an answer that differs.
-fn try_made(file: &mut [u8]) {
+fn try_made(rt: HostRuntime, file: &mut [u8]) {
     make(file);
-    try_first(file, LIMIT - 1);
-    try_first(file, LIMIT);
-    try_first(file, ROOM);
+    try_first(rt, file, LIMIT - 1);
+    try_first(rt, file, LIMIT);
+    try_first(rt, file, ROOM);
     spoil(file);
-    try_first(file, LIMIT);
-    try_first(file, ROOM);
+    try_first(rt, file, LIMIT);
+    try_first(rt, file, ROOM);
 }
 
 // Tries all runs, in a buffer that has room for the longest.
-fn try_all(file: &mut [u8]) {
-    try_stored(file);
-    try_made(file);
+fn try_all(rt: HostRuntime, file: &mut [u8]) {
+    try_stored(rt, file);
+    try_made(rt, file);
 }
 
-fn main() {
+fn main(rt: HostRuntime) {
     let mut file = [0u8; ROOM];
-    try_all(&mut file);
+    try_all(rt, &mut file);
 }

@@ -1,0 +1,28 @@
+-- The cases are the definition's.
+use borrow.Author.Rules.{rules}
+use Rattle.given.specs.Given.{flow_or}
+use Rattle.given.proofs.flow_or.Goals as goal
+
+pub returns-in-Version : goal.returns-in-Version
+unfolding flow_or
+returns-in-Version c = search rules
+
+pub returns-in-Roles : goal.returns-in-Roles
+unfolding flow_or
+returns-in-Roles c = search rules
+
+pub returns-in-Flow : goal.returns-in-Flow
+unfolding flow_or
+returns-in-Flow c = search rules
+
+pub returns-in-Granted : goal.returns-in-Granted
+unfolding flow_or
+returns-in-Granted c = search rules
+
+pub returns-in-Constraint : goal.returns-in-Constraint
+unfolding flow_or
+returns-in-Constraint c = search rules
+
+pub returns-in-Refused : goal.returns-in-Refused
+unfolding flow_or
+returns-in-Refused c = search rules

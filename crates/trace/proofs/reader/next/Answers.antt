@@ -1,0 +1,12 @@
+-- Where a line ends is a position too.
+use Rattle.std.proofs.Common.{rules, arith, ◌<◌, ◌^◌, length, ap, ◌+◌, ℕ, List, sym}
+use Rattle.trace.specs.Lines.{line_at}
+use Rattle.trace.proofs.Finding.{line_fits}
+use Rattle.trace.proofs.reader.next.Goals as goal
+
+pub overflow_add-trace : goal.overflow_add-trace
+overflow_add-trace c =
+    let t = c.args.trace.now in
+    let l : length t.text.now < 2 ^ 64 = search rules in
+    let a : t.at < 2 ^ 64 = search rules in
+    omega (arith, line_fits t.text.now t.at l a, ap (length {A = ℕ}) c.line_from-line.ensures)

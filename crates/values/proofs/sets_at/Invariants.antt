@@ -1,0 +1,12 @@
+-- The role sets for the flows before g are in their places.
+use Prim.Native.Nat.{◌-◌, ◌≤◌}
+use mathlib.Core.Path.{◌≡◌}
+use Rattle.model.specs.Limits.{flow_count}
+use Rattle.model.specs.State.{filled, roleset_at}
+use Rattle.values.proofs.sets_at.Given as goal
+
+abbrev pub invariant-loop-g : goal.invariant-loop-g
+invariant-loop-g l = (l.g ≤ flow_count) × (l.roles ≡ filled 0 (roleset_at l.rolesets l.s l.f) l.g l.initial.roles)
+
+abbrev pub decreases-loop-g : goal.decreases-loop-g
+decreases-loop-g l = flow_count - l.g
