@@ -229,7 +229,7 @@ def closing(case, before, ends):
     right(case)
 
 
-closing("a pipe that is closed", lambda: signal.signal(signal.SIGPIPE, signal.SIG_DFL), -signal.SIGPIPE)
+closing("a pipe that is closed", lambda: signal.signal(signal.SIGPIPE, signal.SIG_DFL), 0)
 closing("a pipe that is closed, the signal ignored", lambda: signal.signal(signal.SIGPIPE, signal.SIG_IGN), 0)
 
 
@@ -386,7 +386,7 @@ def going_over(command):
     with open("/dev/zero", "rb") as endless:
         tried("an input that does not end", b"", b"", sixteen, stdin=endless)
 
-    for case, handled, ends in (("a pipe that is closed", signal.SIG_DFL, -signal.SIGPIPE),
+    for case, handled, ends in (("a pipe that is closed", signal.SIG_DFL, 0),
                                 ("a pipe that is closed, the signal ignored", signal.SIG_IGN, 0)):
         unread, its_out = os.pipe()
         os.close(unread)
@@ -451,7 +451,7 @@ for n in (0, 4, 5, 6, 12, 19):
            command=ASKED, env={"LD_PRELOAD": LIBRARY, "READS": n * "1" + "e"})
 
 # ---- a pipe that nobody reads; a second write that fails; descriptors that don't block
-for case, handled, ends in (("a picture, a pipe that is closed", signal.SIG_DFL, -signal.SIGPIPE),
+for case, handled, ends in (("a picture, a pipe that is closed", signal.SIG_DFL, 0),
                             ("a picture, a pipe that is closed, the signal ignored", signal.SIG_IGN, 0)):
     unread, its_out = os.pipe()
     os.close(unread)
