@@ -11,7 +11,7 @@ loop-g-preserved c =
     let i = c.loop-g.invariant in
     let meets = sym c.meets.ensures in
     elim c.if-meets.branch [
-      then-meets w ↦ (omega arith, omega arith, counted _ _ _ i.2 (meets ∙ w.if-meets.true) ∙ sym w.met-is)
+      | then-meets w ↦ (omega arith, omega arith, counted _ _ _ i.2 (meets ∙ w.if-meets.true) ∙ sym w.met-is)
       | else-meets w ↦ (omega arith, omega arith, uncounted _ _ _ i.2 (meets ∙ w.if-meets.false) ∙ sym w.met-is)
     ]
 

@@ -24,7 +24,7 @@ flows-preserved c =
     let i = c.flows.invariant in
     let meets = sym c.meets.ensures in
     elim c.if-meets.branch [
-      then-meets+else-seen-eq2 w ↦ (omega arith, omega arith, counted _ _ _ i.2 (meets ∙ w.if-meets.true) ∙ sym w.seen-is)
+      | then-meets+else-seen-eq2 w ↦ (omega arith, omega arith, counted _ _ _ i.2 (meets ∙ w.if-meets.true) ∙ sym w.seen-is)
       | else-meets w ↦ (omega arith, omega arith, uncounted _ _ _ i.2 (meets ∙ w.if-meets.false) ∙ sym w.seen-is)
     ]
 
@@ -40,22 +40,22 @@ loop-u-preserved c =
       omega arith,
       c.loop-u.invariant.1,
       elim c.if-difference-ne0.branch [
-        then-difference-ne0+then-seen-eq2-2 w ↦
-          let two : leb 2 (count end (test c.row-held.result)) ≡ eqb w.flows-test.seen 2 =
+        | then-difference-ne0+then-seen-eq2-2 w ↦
+            let two : leb 2 (count end (test c.row-held.result)) ≡ eqb w.flows-test.seen 2 =
             elim w.flows-test.branch [
-              else-flows-test v ↦ few _ _ _ _ (omega arith) w.flows.invariant.1 w.flows.invariant.2 ∙ ap (λ x. eqb x 2) (sym v.seen-is)
+              | else-flows-test v ↦ few _ _ _ _ (omega arith) w.flows.invariant.1 w.flows.invariant.2 ∙ ap (λ x. eqb x 2) (sym v.seen-is)
               | then-flows-test+then-meets+then-seen-eq2 v ↦
-                second _ _ _ _ v.flows-test.true w.flows.invariant.2 (sym v.meets.ensures ∙ v.if-meets.true) v.if-seen-eq2.true ∙ ap (λ x. eqb x 2) (sym v.seen-is)
+                  second _ _ _ _ v.flows-test.true w.flows.invariant.2 (sym v.meets.ensures ∙ v.if-meets.true) v.if-seen-eq2.true ∙ ap (λ x. eqb x 2) (sym v.seen-is)
             ] in
-          found_taken role_count _ _ _ _ _ _ g row (same ∙ two ∙ eq-eqb _ _ w.if-seen-eq2-2.true) (w.found-is ∙ w.union-found.ensures)
+            found_taken role_count _ _ _ _ _ _ g row (same ∙ two ∙ eq-eqb _ _ w.if-seen-eq2-2.true) (w.found-is ∙ w.union-found.ensures)
         | then-difference-ne0+else-seen-eq2-2 w ↦
-          let two : leb 2 (count end (test c.row-held.result)) ≡ eqb w.flows-test.seen 2 =
+            let two : leb 2 (count end (test c.row-held.result)) ≡ eqb w.flows-test.seen 2 =
             elim w.flows-test.branch [
-              else-flows-test v ↦ few _ _ _ _ (omega arith) w.flows.invariant.1 w.flows.invariant.2 ∙ ap (λ x. eqb x 2) (sym v.seen-is)
+              | else-flows-test v ↦ few _ _ _ _ (omega arith) w.flows.invariant.1 w.flows.invariant.2 ∙ ap (λ x. eqb x 2) (sym v.seen-is)
               | then-flows-test+then-meets+then-seen-eq2 v ↦
-                second _ _ _ _ v.flows-test.true w.flows.invariant.2 (sym v.meets.ensures ∙ v.if-meets.true) v.if-seen-eq2.true ∙ ap (λ x. eqb x 2) (sym v.seen-is)
+                  second _ _ _ _ v.flows-test.true w.flows.invariant.2 (sym v.meets.ensures ∙ v.if-meets.true) v.if-seen-eq2.true ∙ ap (λ x. eqb x 2) (sym v.seen-is)
             ] in
-          rw w.found-is (found_left role_count _ _ _ _ g (same ∙ two ∙ ne_eqb _ _ w.if-seen-eq2-2.false))
+            rw w.found-is (found_left role_count _ _ _ _ g (same ∙ two ∙ ne_eqb _ _ w.if-seen-eq2-2.false))
         | else-difference-ne0 w ↦ rw w.found-is (found_passed role_count _ _ _ _ _ g row (sym c.difference.ensures ∙ w.if-difference-ne0.false))
       ],
     )
@@ -67,6 +67,6 @@ returns c =
     let e : c.loop-u.u ≡ user_count = omega arith in
     (rw e at c.loop-u.invariant.2).so_far
     ∙ elim c.if-may-n.branch [
-      then-may-n w ↦ no_further _ may _ _ w.end-is w.if-may-n.true
+      | then-may-n w ↦ no_further _ may _ _ w.end-is w.if-may-n.true
       | else-may-n w ↦ ap (conflicts_of _ may) w.end-is
     ]

@@ -61,12 +61,11 @@ loop-at-smaller c =
     omega arith
 
 pub loop-at-preserved : goal.loop-at-preserved
-loop-at-preserved c =
-    (
-      going_step _ _ _ _ c.loop-at.invariant.0 (omega (arith, c.if-text-gt-LIMIT.false)) (omega (arith, c.loop-at-test.true)) _ c.line_at-frame.ensures (omega (arith, c.if-text-behind.false)) _ c.line_at-given.ensures _ _ _ _ c.feed-fed.ensures (omega (arith, c.loop-at.invariant.1)) (omega arith) (omega arith)
-          (sym c.is_same.ensures ∙ c.if-not-is_same.false),
-      search rules,
-    )
+loop-at-preserved c = (
+  going_step _ _ _ _ c.loop-at.invariant.0 (omega (arith, c.if-text-gt-LIMIT.false)) (omega (arith, c.loop-at-test.true)) _ c.line_at-frame.ensures (omega (arith, c.if-text-behind.false)) _ c.line_at-given.ensures _ _ _ _ c.feed-fed.ensures (omega (arith, c.loop-at.invariant.1)) (omega arith) (omega arith)
+      (sym c.is_same.ensures ∙ c.if-not-is_same.false),
+  search rules,
+)
 
 pub returns : goal.returns
 returns c = going_end c.loop-at.invariant.0 (omega (arith, c.loop-at-test.false)) (omega (arith, c.if-text-gt-LIMIT.false))
