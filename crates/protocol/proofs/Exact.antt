@@ -46,7 +46,8 @@ use Rattle.protocol.specs.Specification.{none as feedless_none, byte as feedless
 use Rattle.protocol.specs.Demands.{Exact}
 use Rattle.protocol.proofs.Laws.{NoFeed, split_line, split_rest}
 use Rattle.protocol.proofs.Laws.{none as no_none, byte as no_byte, show_within}
-use Rattle.protocol.proofs.Spelling.{hex_digits, bits_set, says, says_one}
+use Rattle.protocol.proofs.Spelling.{hex_digits, bits_set}
+use Rattle.protocol.proofs.Saying.{says, says_one}
 
 -- ---- role sets
 

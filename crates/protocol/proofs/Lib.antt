@@ -1,6 +1,7 @@
 pub mod Laws
 pub mod Products
 pub mod Spelling
+pub mod Saying
 pub mod Exact
 pub mod ProductBytes
 pub mod Demands

@@ -1,10 +1,10 @@
--- A line is read as the call whose frame it is, and as malformed where it is no frame.
+-- A line of digits that is read as a call is that call's frame.
 -- Assumes nothing.
 use Prim.Native.Nat.{ℕ, zero, suc, ◌+◌, ◌-◌, ◌*◌, ◌/◌, ◌%◌, ◌^◌, ◌≤◌, ◌<◌}
-use mathlib.Core.Path.{◌≡◌, refl, sym, ap, ap₂, ◌∙◌, subst}
+use mathlib.Core.Path.{◌≡◌, refl, sym, ap, ap₂, ◌∙◌}
 use mathlib.Core.Bool.{Bool, true, false, cond, not, ◌&&◌, and_assoc, true≢false}
 use mathlib.Core.List.{List, [], ◌∷◌, ◌++◌}
-use mathlib.Core.Logic.{◌⊎◌, inl, inr, ⊎_elim}
+use mathlib.Core.Logic.{◌⊎◌, inl, inr}
 use native.Mathlib.Nat.{mod-lt, div-add-mod', div-lt_iff_lt-mul, pow-suc}
 use native.Mathlib.Omega.{arith}
 use lib.Arith.{digits_lt, digits_div, digits_mod}
@@ -22,8 +22,7 @@ use Rattle.model.specs.declared.calls.Call.TheVariants.{Table, Session, Read, Un
 use Rattle.protocol.specs.Digits.{digit, all_digits, number_from, number, glyph, hex}
 use Rattle.protocol.specs.Lines.{field, rest_digits, called_by, called, frame, call_of}
 use Rattle.protocol.proofs.Laws.{hex_length}
-use Rattle.protocol.specs.Specification.{digits, in_digits, bits, M, spelled, HasFrame, Says}
-use Rattle.protocol.specs.Specification.{frame as says_frame, malformed as says_malformed}
+use Rattle.protocol.specs.Specification.{digits, in_digits, bits, M, spelled, HasFrame}
 
 -- ---- digits
 
@@ -305,10 +304,10 @@ add_back l h m =
     )
 
 -- what a line is read as
-abbrev Framed : List ℕ → Call → Type 0
+abbrev pub Framed : List ℕ → Call → Type 0
 Framed line c = (c ≡ Unreadable) ⊎ (HasFrame c × (line ≡ spelled c))
 
-pick : (P : Call → Type 0) (t : Bool) (a b : Call) → (t ≡ true → P a) → P b → P (cond t a b)
+pub pick : (P : Call → Type 0) (t : Bool) (a b : Call) → (t ≡ true → P a) → P b → P (cond t a b)
 pick P true a b f p = f refl
 pick P false a b f p = p
 
@@ -361,7 +360,7 @@ module _ (line : List ℕ) (h : all_digits line ≡ true) (long : eqb (length (d
         r.0 ∙ ap (λ (xs : List ℕ). in_digits 2 k ++ xs) (f.0 ∙ simp (hex_digits, bits_set 64 (has m), members 64 m f.3)),
       )
 
-  framed_called : Framed line (called (number (take 2 line)) (drop 2 line))
+  pub framed_called : Framed line (called (number (take 2 line)) (drop 2 line))
   unfolding called called_by spelled M rest_digits
   framed_called =
       pick (Framed line) _ _ _ (λ t. inr (pair_framed 1 t refl))
@@ -380,36 +379,3 @@ module _ (line : List ℕ) (h : all_digits line ≡ true) (long : eqb (length (d
       (pick (Framed line) _ _ _ (λ t. inr (quad_framed 14 t refl))
       (pick (Framed line) _ _ _ (λ t. inr (pair_framed 15 t refl))
       (pick (Framed line) _ _ _ (λ t. inr (pair_framed 16 t refl)) (inl refl))))))))))))))))
-
-framed_digits : (line : List ℕ) → all_digits line ≡ true → Framed line (frame (number (take 2 line)) (drop 2 line))
-unfolding frame
-framed_digits line h = pick (Framed line) _ _ _ (λ t. framed_called line h t) (inl refl)
-
-framed : (line : List ℕ) → Framed line (call_of line)
-unfolding call_of
-framed line = go (all_digits line) refl
-  where
-    go : (b : Bool) → all_digits line ≡ b → Framed line (cond b (frame (number (take 2 line)) (drop 2 line)) Unreadable)
-    go true h = framed_digits line h
-    go false h = inl refl
-
--- ---- together
-
-no_frame : (d : Call) → d ≡ Unreadable → HasFrame d → ⊥
-no_frame d e h = subst (λ (c : Call). HasFrame c) e h
-
-says_of : {line : List ℕ} (c : Call) → HasFrame c → line ≡ spelled c → Says line c
-says_of c h e = rw e (says_frame c h)
-
--- a line says the call that it is read as
-pub says : (line : List ℕ) → Says line (call_of line)
-says line = go (call_of line) refl (framed line)
-  where
-    go : (c : Call) → call_of line ≡ c → Framed line c → Says line c
-    go c e (inl u) = rw u (says_malformed line (λ d f q. no_frame d (sym (read_spelled d f) ∙ ap call_of (sym q) ∙ e ∙ u) f))
-    go c e (inr r) = says_of c r.0 r.1
-
--- and no other
-pub says_one : {line : List ℕ} {c : Call} → Says line c → call_of line ≡ c
-says_one (says_frame c h) = read_spelled c h
-says_one (says_malformed line f) = ⊎_elim (λ u. u) (λ r. absurd (f (call_of line) r.0 r.1)) (framed line)

@@ -11,7 +11,7 @@ use Rattle.model.specs.declared.calls.Call.{Call}
 use Rattle.protocol.specs.Lines.{call_of}
 use Rattle.protocol.specs.Specification.{Feedless, Input}
 use Rattle.protocol.specs.Specification.{ended as input_ended, line as input_line, unended as input_unended}
-use Rattle.protocol.proofs.Spelling.{says}
+use Rattle.protocol.proofs.Saying.{says}
 use Rattle.protocol.proofs.Exact.{no_feed, input_some}
 use Rattle.trace.specs.Lines.{lines_of}
 use Rattle.trace.specs.Recorded.{Pair, Reads, Say}

@@ -1,11 +1,11 @@
 -- The lines that are printed, by the outcomes.
 -- Assumes nothing.
 use Prim.Native.Nat.{ℕ}
-use mathlib.Core.Path.{◌≡◌, refl, ap, ◌∙◌}
+use mathlib.Core.Path.{◌≡◌, ◌∙◌}
 use mathlib.Core.List.{List, [], ◌∷◌, ◌++◌, append-nil}
 use lib.ListN.{length, length-append}
 use Rattle.protocol.specs.Digits.{glyph, hex}
-use Rattle.protocol.specs.Specification.{digits, in_digits}
+use Rattle.protocol.specs.Specification.{in_digits}
 use Rattle.protocol.proofs.Laws.{hex_length}
 use Rattle.protocol.proofs.Spelling.{hex_digits}
 use Rattle.trace.specs.declared.printing.Printed.{Printed}

@@ -1,46 +1,41 @@
 -- K5 in its own words: what is printed of a file goes by the answer lines of the specification, and a recorded run gives zeros.
 -- Assumes nothing.
-use Prim.Native.Nat.{ℕ, zero, suc, ◌+◌, ◌^◌, ◌%◌, ◌/◌, ◌≤◌, ◌<◌}
+use Prim.Native.Nat.{ℕ, zero, suc, ◌+◌, ◌%◌, ◌/◌, ◌≤◌, ◌<◌}
 use mathlib.Core.Path.{◌≡◌, refl, sym, ap, ap₂, ◌∙◌, subst}
-use mathlib.Core.Bool.{Bool, true, false, cond, true≢false, false≢true}
+use mathlib.Core.Bool.{Bool, true, false, cond, true≢false}
 use mathlib.Core.List.{List, [], ◌∷◌, ◌++◌, append_assoc}
 use mathlib.Core.Logic.{◌⊎◌, inl, inr}
 use native.Mathlib.Decide.{dec_lt}
 use native.Mathlib.Omega.{arith}
-use lib.Dec.{eqb, ltb}
-use lib.ListN.{length, get_or, take, length-append}
-use lib.Seq.{append_snoc, take_at}
-use borrow.Author.Tests.{eqb-true, eq-eqb, lt-ltb, le-ltb}
-use Rattle.sets.proofs.Laws.{and_both}
+use lib.Dec.{ltb}
+use lib.ListN.{length, get_or}
+use lib.Seq.{append_snoc}
+use borrow.Author.Tests.{lt-ltb, le-ltb}
 use Rattle.model.specs.declared.Constraint.{Constraint}
 use Rattle.model.specs.declared.Engine.{Engine}
 use Rattle.model.specs.declared.calls.Call.{Call}
-use Rattle.model.specs.declared.calls.Call.TheVariants.{Unreadable}
 use Rattle.model.specs.declared.calls.Answer.{Answer}
 use Rattle.model.specs.declared.calls.Answer.TheVariants.{Version, Roles, Flow, Granted, Constraint as Answer-as-Constraint, Refused}
 use Rattle.model.specs.State.{fresh}
 use Rattle.model.specs.Calls.{returned, verdict_of, after, answer}
 use Rattle.protocol.specs.Widths.{field_digits, version_digits, set_digits}
-use Rattle.protocol.specs.Digits.{number, glyph, hex}
+use Rattle.protocol.specs.Digits.{glyph, hex}
 use Rattle.protocol.specs.Lines.{call_of, role_sets, values, line_of}
 use Rattle.protocol.specs.Run.{split, last_call, calls_of, shown_in, reply, replies}
 use Rattle.model.specs.Refusals.{refusal, accepts}
-use Rattle.protocol.specs.Specification.{digits, in_digits, two, Feedless, Book, next, blank, told, answer_line}
+use Rattle.protocol.specs.Specification.{two, Feedless, Book, blank, told, answer_line}
 use Rattle.protocol.specs.Specification.{none as feedless_none, byte as feedless_byte}
-use Rattle.protocol.proofs.Laws.{more, run_more, more_line, hex_length}
-use Rattle.protocol.proofs.Spelling.{hex_digits, number_hex, says_one}
-use Rattle.protocol.proofs.Exact.{Agrees as Fits, agrees_fresh, agrees_line, agrees_next, no_feed, exact}
-use Rattle.trace.specs.declared.replaying.Outcome.{Outcome}
-use Rattle.trace.specs.declared.replaying.Outcome.TheVariants.{AllAgree, Differs, FrameLast}
+use Rattle.protocol.proofs.Laws.{more, run_more, more_line}
+use Rattle.protocol.proofs.Exact.{agrees_fresh, no_feed, exact}
+use Rattle.trace.specs.declared.replaying.Outcome.TheVariants.{AllAgree}
 use Rattle.trace.specs.Lines.{lines_of}
-use Rattle.trace.specs.Outcomes.{limit, same, agrees, outcome_from, outcome, printed}
-use Rattle.trace.specs.Recorded.{Pair, Reads, Say, book_after, Agrees, AgreeBefore, number_line, sixteen_line, Long, Short, Replays, WholeLines, Recording, RecordedRun}
-use Rattle.trace.specs.Recorded.Say.{none as say_none, more as say_more}
+use Rattle.trace.specs.Outcomes.{limit, agrees, outcome_from, outcome, printed}
+use Rattle.trace.specs.Recorded.{Pair, Reads, Say, Agrees, AgreeBefore, number_line, sixteen_line, Long, Short, Replays, WholeLines, Recording, RecordedRun}
 use Rattle.trace.specs.Recorded.WholeLines.{none as whole_none, line as whole_line}
 use Rattle.trace.specs.Recorded.Recording.{none as recording_none, pair as recording_pair}
 use Rattle.trace.proofs.Lines.{no_lines, frame_in_is}
-use Rattle.trace.proofs.Pairs.{lines_line, Lined, lined_none, lined_last, lined_more, reads_lined, reads_short, read_some}
-use Rattle.trace.proofs.Ending.{same_is, same_self, agree_more, Ends, ends, number_length, number_apart, number_sixteen, zeros_printed, Prints, prints_long, prints_number, prints_zeros, prints_frame, short_prints, ends_differs, ends_agree, ends_frame}
+use Rattle.trace.proofs.Pairs.{lines_line, reads_lined, reads_short, read_some}
+use Rattle.trace.proofs.Ending.{same_self, ends, number_apart, number_sixteen, zeros_printed, Prints, prints_long, prints_number, prints_zeros, prints_frame, short_prints}
 
 prints : (file : List ℕ) (ps : List Pair) (last : Bool) (cs : List Call) → Reads file ps last → Say ps cs → Prints file ps last cs (printed (outcome file))
 unfolding outcome printed

@@ -5,7 +5,7 @@ use Rattle.model.specs.declared.Engine.{Engine}
 use Rattle.model.specs.State.{fresh}
 use Rattle.model.specs.Calls.{after}
 use Rattle.protocol.specs.Specification.{in_digits}
-use Rattle.protocol.specs.Lines.{call_of, line_feed}
+use Rattle.protocol.specs.Lines.{call_of}
 use Rattle.protocol.specs.Run.{reply}
 use Rattle.trace.specs.declared.replaying.Outcome.{Outcome}
 use Rattle.trace.specs.declared.replaying.Outcome.TheVariants.{AllAgree, Differs, FrameLast, TooLong}

@@ -1,8 +1,5 @@
-use Prim.Native.Nat.{◌<◌}
 use native.Mathlib.Omega.{arith}
-use lib.ListN.{length}
 use borrow.Author.Tests.{not-true, not-false}
-use Rattle.decoding.specs.Frames.{LineAt}
 use Rattle.frames.proofs.Feeding.{line_read, line_inside, feeding_start, feeding_step, out_long, written_fits, ends_whole, ends_full, ends_open}
 use Rattle.frames.proofs.stream.feed.Goals as goal
 

@@ -1,6 +1,5 @@
 -- Where a line ends is a position too.
-use Rattle.std.proofs.Common.{rules, arith, ◌<◌, ◌^◌, length, ap, ◌+◌, ℕ, List, sym}
-use Rattle.trace.specs.Lines.{line_at}
+use Rattle.std.proofs.Common.{rules, arith, ◌<◌, ◌^◌, length, ap, ℕ}
 use Rattle.trace.proofs.Finding.{line_fits}
 use Rattle.trace.proofs.reader.next.Goals as goal
 

@@ -1,13 +1,9 @@
-use Prim.Native.Nat.{◌+◌, ◌≤◌}
 use mathlib.Core.Path.{refl, sym, ◌∙◌}
 use native.Mathlib.Omega.{arith}
-use lib.ListN.{length}
 use lib.Seq.{length-take-le}
 use borrow.Author.Rules.{rules}
-use borrow.Author.Tests.{not-true, not-false}
 use Rattle.tables.specs.Tables.{fresh as empty_tables}
 use Rattle.model.specs.State.{fresh}
-use Rattle.protocol.specs.Widths.{longest}
 use Rattle.trace.proofs.Going.{going_start, line_within, some_bytes, going_end, going_last, going_step, going_differs, written_within, too_long}
 use Rattle.trace.proofs.replaying.replay.Goals as goal
 
