@@ -12,7 +12,7 @@ use tables::Tables;
 pub type OldVersion = u16;
 
 // Who held and might read what, and since when. The tables have the rows that they have today.
-#[derive(Drop)]
+#[derive(Clone, Copy)]
 pub struct OldDirectory {
     pub roles: [u64; Engine::USERS],
     pub readers: [u64; Engine::DATABASES],
@@ -23,7 +23,7 @@ pub struct OldDirectory {
 }
 
 // What was asked to be kept apart, in the places that it has today.
-#[derive(Drop)]
+#[derive(Clone, Copy)]
 pub struct OldSessions {
     pub opened: u64,
     pub counts: [usize; Engine::ALL_SESSIONS],
@@ -34,7 +34,7 @@ pub struct OldSessions {
     pub rolesets: [u64; Engine::ROLE_SETS],
 }
 
-#[derive(Drop)]
+#[derive(Clone, Copy)]
 pub struct OldEngine {
     pub directory: OldDirectory,
     pub sessions: OldSessions,

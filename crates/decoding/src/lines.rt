@@ -13,7 +13,7 @@ use protocol::KEPT;
 // A line's call, the place of its line feed, or the input's end where it has none, and whether it has
 // one. Of a frame that is a constant: so nothing stands between the match on its kind and a caller's
 // match on its call, and the compiler joins the two.
-#[derive(Drop)]
+#[derive(Clone, Copy)]
 pub struct NextLine {
     pub call: Call,
     pub end: usize,
@@ -70,7 +70,7 @@ pub(crate) fn with_feed(line: &[u8]) -> [u8; KEPT]
 }
 
 // A line with its line feed, at the start of an array, and how long it is.
-#[derive(Drop)]
+#[derive(Clone, Copy)]
 pub struct Framed {
     pub bytes: [u8; KEPT],
     pub len: usize,

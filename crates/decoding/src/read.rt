@@ -18,7 +18,7 @@ const ADDITION_LINE: usize = ADDITION + 1;
 
 // The frame that an input begins with: its call, and how many digits it has. Where it begins with
 // none, there is no call and no digit.
-#[derive(Drop)]
+#[derive(Clone, Copy)]
 pub struct Frame {
     pub call: Call,
     pub digits: usize,

@@ -14,7 +14,7 @@ use encoding::Line;
 use model::{Call, Engine, Version};
 
 // How many bytes of the input were taken and of the output written.
-#[derive(Drop)]
+#[derive(Clone, Copy)]
 pub struct Fed {
     pub consumed: usize,
     pub written: usize,

@@ -9,7 +9,7 @@ ghost use Rattle.output.specs.Output.{room_at, ending, end_answer, end_written};
 use protocol::LONGEST;
 
 // What became of a line: the place behind it, or that it was not written.
-#[derive(Drop)]
+#[derive(Clone, Copy)]
 pub enum Line {
     Written(usize),
     NoRoom,

@@ -27,14 +27,14 @@ const REASON: usize = 128;
 
 // The place that the input has come to in its buffer, and why it could not be read, where it couldn't. At
 // the end of the input the place is where it was.
-#[derive(Drop)]
+#[derive(Clone, Copy)]
 pub struct Read {
     pub end: usize,
     pub failure: Option<Error>,
 }
 
 // The place that the output has come to, and why it could not be written, where it couldn't.
-#[derive(Drop)]
+#[derive(Clone, Copy)]
 pub struct Written {
     pub end: usize,
     pub failure: Option<Error>,

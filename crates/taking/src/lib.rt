@@ -22,7 +22,7 @@ const SENTENCE: usize = 128;
 
 // What of the input is to be fed, from a place to the end of what is filled; how many lines are answered;
 // whether both streams are still open; and how many turns are left.
-#[derive(Drop)]
+#[derive(Clone, Copy)]
 pub struct Held {
     pub from: usize,
     pub filled: usize,

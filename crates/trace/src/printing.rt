@@ -9,7 +9,7 @@ use super::replaying::Outcome;
 pub const WIDEST: usize = 17;
 
 // A line of this many bytes; behind it there are zeros.
-#[derive(Drop)]
+#[derive(Clone, Copy)]
 pub struct Printed {
     pub bytes: [u8; WIDEST],
     pub len: usize,

@@ -1,11 +1,10 @@
 // The trace reader: it carries the lent text and the position of the next unread line, and hands out each
-// line as the part of that text it is. The borrow checker covers no function over such a struct, so its
-// steps are thin, and proved by hand; `line_from`, which finds the line, is covered. Whoever has a text
+// line as the part of that text it is. Its steps are thin: `line_from` finds the line. Whoever has a text
 // and a position goes by `line_at`.
 ghost use Rattle.std.specs.Prelude.{◌+◌, ◌≡◌, length};
 ghost use Rattle.trace.specs.Lines.{line_at};
 
-#[derive(Drop)]
+#[derive(Clone, Copy)]
 pub struct Trace<'a> {
     pub text: &'a [u8],
     pub at: usize,

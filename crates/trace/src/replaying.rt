@@ -10,7 +10,7 @@ use model::{Engine, Version};
 pub const LIMIT: usize = 1048576;
 
 // What became of a recorded run.
-#[derive(Drop)]
+#[derive(Clone, Copy)]
 pub enum Outcome {
     // No pair differs.
     AllAgree,
