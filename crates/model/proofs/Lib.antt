@@ -15,6 +15,7 @@ pub mod Kept
 pub mod Demands
 pub mod MandateCalls
 pub mod Mandates
+mod Left
 pub mod Versions
 pub mod Closing
 pub mod Products

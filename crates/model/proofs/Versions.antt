@@ -1,14 +1,14 @@
 -- Versions stay at or below the last one, whatever it is, and row 9 is met there alone.
 -- Assumes nothing.
-use Prim.Native.Nat.{ℕ, ◌+◌, ◌≤◌, ◌<◌}
+use Prim.Native.Nat.{ℕ, ◌≤◌, ◌<◌}
 use mathlib.Core.Path.{◌≡◌, refl, sym, ap, ◌∙◌}
-use mathlib.Core.Bool.{Bool, true, false, cond, not, ◌&&◌, true≢false}
+use mathlib.Core.Bool.{Bool, true, false, not, ◌&&◌, true≢false}
 use mathlib.Core.List.{List, [], ◌∷◌, ◌++◌}
 use mathlib.Core.Logic.{◌≢◌}
 use native.Mathlib.Omega.{arith}
 use lib.Dec.{eqb}
 use lib.ListN.{take}
-use borrow.Author.Tests.{eqb-true, eqb-false, eq-eqb}
+use borrow.Author.Tests.{eqb-true, eq-eqb}
 use Rattle.sets.specs.Sets.{some}
 use Rattle.sets.proofs.Laws.{and_both, some_nowhere, some_at}
 use Rattle.tables.specs.Tables.{user_count}
@@ -25,6 +25,7 @@ use Rattle.model.specs.Refusals.{due, spent, change_rows, rows, first_met, refus
 use Rattle.model.specs.Demands.{ledger_at}
 use Rattle.model.specs.Versions.{Versions}
 use Rattle.model.proofs.Chains.{not_met}
+use Rattle.model.proofs.Left.{HasVersion, few_renewed}
 use Rattle.model.proofs.Ledgers.{entered_rest, change_rises, step_by, ordered_at}
 
 -- ---- row 9, which is the last row of a change
@@ -65,7 +66,7 @@ module _ (last : ℕ) (l : Ledger) where
   spent_met (Mandate r d) h = absurd (lacking (_ ∷ _ ∷ _ ∷ []) refl h)
 
   -- an accepted change had a version left, where one is due
-  unspent : (c : Change) → first_met (change_rows last l c) ≡ 0 → (some user_count (due l c) && eqb l.system last) ≡ false
+  unspent : (c : Change) → first_met (change_rows last l c) ≡ 0 → HasVersion last l c
   unfolding change_rows spent due
   unspent (Assign u r) h = (not_met 8 _ [] (not_met 2 _ _ (not_met 1 _ _ h).1).1).0
   unspent (Withdraw u r) h = rw nobody
@@ -76,13 +77,9 @@ module _ (last : ℕ) (l : Ledger) where
 
   -- ---- no version above the last
 
-  few_renewed : (n : ℕ) (b : Bool) → n ≤ last → (b && eqb n last) ≡ false → cond b (n + 1) n ≤ last
-  few_renewed n true k h = let q : n ≢ last = eqb-false n last h in omega (arith, q)
-  few_renewed n false k h = k
-
-  few_change : (c : Change) → l.system ≤ last → (some user_count (due l c) && eqb l.system last) ≡ false → (taken l (Table c)).system ≤ last
+  few_change : (c : Change) → l.system ≤ last → HasVersion last l c → (taken l (Table c)).system ≤ last
   unfolding taken renewed
-  few_change c h n = rw (entered_rest l c).0 (few_renewed l.system (some user_count (due l c)) h n)
+  few_change c h n = rw (entered_rest l c).0 (few_renewed last l.system (some user_count (due l c)) h n)
 
   few_asked : (p : Product) (s : ℕ) (a : Ask) → l.system ≤ last → (asked l p s a).system ≤ last
   unfolding asked with_flows
