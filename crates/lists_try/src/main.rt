@@ -137,7 +137,10 @@ fn run_named(rt: HostRuntime, i: usize) -> bool {
     };
     match open(rt, &path[..length]) {
         Ok(mut file) => run(rt, &mut file),
-        Err(failure) => streams::say(rt, &path[..length], failure),
+        Err(failure) => {
+            let mut text = io::buffer();
+            streams::say_of(rt, &mut text, &path[..length], failure);
+        }
     }
     true
 }

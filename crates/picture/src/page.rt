@@ -18,7 +18,7 @@ fn written(rt: HostRuntime, bytes: &[u8], n: usize) -> usize {
         &bytes[..end],
         b"picture: the picture was not written whole",
     );
-    if put < end { MUTE } else { 0 }
+    if put.end < end { MUTE } else { 0 }
 }
 
 // Writes what is held back.

@@ -12,7 +12,7 @@ ghost use Rattle.std.specs.Io.KnownBytes.{Appends, Consumes, IsAtEnd};
 ghost use Rattle.io.specs.Counts.{IsPrefixLen};
 ghost use Rattle.streams.specs.Feeds.{feeds};
 ghost use Rattle.streams.specs.Feeds.{feed as Feeds·feed};
-ghost use Rattle.streams.specs.Said.{Placed, Said};
+ghost use Rattle.streams.specs.Said.{Begins, Placed, Said};
 
 use std::io::{Error, ErrorKind, Print};
 use std::time::Duration;
@@ -290,7 +290,7 @@ fn words_end(failure: Error, bytes: &[u8]) -> usize
 
 // Says in a line on standard error what failed, and the reason. A pipe that its reader has closed is no
 // failure: whoever reads the first lines only has what was asked for.
-pub fn say(rt: HostRuntime, what: &[u8], failure: Error) {
+fn say(rt: HostRuntime, what: &[u8], failure: Error) {
     if let ErrorKind::BrokenPipe = failure.kind() {
         return;
     }
@@ -306,6 +306,16 @@ pub fn say(rt: HostRuntime, what: &[u8], failure: Error) {
     let _ = errors.write_all(b": ");
     let _ = errors.write_all(&reason.bytes[..words]);
     let _ = errors.write_all(b"\n");
+}
+
+// Says that something failed, and the reason. What failed is put at the start of a text that is lent, as
+// far as that has room, and said from there. It gives how many bytes it has there.
+pub fn say_of(rt: HostRuntime, text: &mut [u8], what: &[u8], failure: Error) -> usize
+    ensures { Begins text.old what.now text.new result }
+{
+    let end = copy_to(text, 0, what);
+    say(rt, &text[..end], failure);
+    end
 }
 
 // Says that something failed: two parts with a number between them, and the reason. The sentence is put
@@ -329,19 +339,21 @@ pub fn say_after(
     end
 }
 
-// Writes all bytes, and says what failed where not all are written. It gives how many were.
+// Writes all bytes, and says what failed where not all are written. It gives how many were, and why no
+// more.
 pub fn write_or_say<W: std::io::Write>(
     rt: HostRuntime,
     output: &mut W,
     bytes: &[u8],
     what: &[u8],
-) -> usize
-    ensures prefix_len { IsPrefixLen result bytes.now }
-    ensures appended { Appends (W.contents output.old) (W.contents output.new) (take result bytes.now) }
+) -> Written
+    ensures prefix_len { IsPrefixLen result.end bytes.now }
+    ensures appended { Appends (W.contents output.old) (W.contents output.new) (take result.end bytes.now) }
+    ensures whole { result.failure ≡ None → result.end ≡ length bytes.now }
 {
     let written = write_all(rt, output, bytes);
     if let Some(failure) = written.failure {
         say(rt, what, failure);
     }
-    written.end
+    written
 }

@@ -59,7 +59,10 @@ fn try_named(rt: HostRuntime, file: &mut [u8], i: usize) -> bool {
             let end = read_full(&mut source, file);
             show(rt, &file[..end]);
         }
-        Err(failure) => streams::say(rt, &path[..length], failure),
+        Err(failure) => {
+            let mut text = io::buffer();
+            streams::say_of(rt, &mut text, &path[..length], failure);
+        }
     }
     true
 }
