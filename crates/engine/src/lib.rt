@@ -1,81 +1,49 @@
-// The linkage engine by value, for who keeps an engine and lends nothing: each call gives its answer and
-// the engine after it. Who keeps the engine's arrays takes `step`.
+// The linkage engine for who keeps it in one piece: `carry_out` is lent the engine; the others take it by
+// value, and each gives its answer and the engine after it. Who keeps the engine's arrays takes `step`.
 #![tactic(auto)]
 
 ghost use Rattle.std.specs.Prelude.{◌≡◌};
-ghost use Rattle.model.specs.Calls.{answer, after, verdict, shown_by};
+ghost use Rattle.model.specs.Limits.{last_version};
+ghost use Rattle.model.specs.Calls.{done, step, answer, after, verdict, shown_by};
 
 pub use model::{
     Answer, Ask, Call, Change, Changed, Constraint, Directory, Engine, Product, Refusal, Sessions,
     Shown, Verdict, Version,
 };
 pub use step::{session_at, step};
-use tables::Tables;
 pub use values::fresh;
 
-// Any call, on a copy of the engine's arrays.
-fn taken(e: Engine, call: Call) -> Changed
+// Any call on an engine that is lent whole: checked, carried out in place and answered.
+pub fn carry_out(engine: &mut Engine, call: Call) -> Answer
+    ensures { done result engine.new ≡ step last_version engine.old call }
+{
+    let directory = &mut engine.directory;
+    let tables = &mut directory.tables;
+    let sessions = &mut engine.sessions;
+    step(
+        &mut tables.roles,
+        &mut tables.readers,
+        &mut tables.forwards,
+        &mut tables.mandates,
+        &mut directory.versions,
+        &mut directory.version,
+        &mut sessions.opened,
+        &mut sessions.counts,
+        &mut sessions.roots,
+        &mut sessions.reaches,
+        &mut sessions.versions,
+        &mut sessions.denies,
+        &mut sessions.rolesets,
+        call,
+    )
+}
+
+// Any call on an engine by value.
+fn taken(mut e: Engine, call: Call) -> Changed
     ensures { (result.answer ≡ answer e call) × (result.engine ≡ after e call) }
 {
-    let d = e.directory;
-    let t = d.tables;
-    let kept = e.sessions;
-    let mut roles = t.roles;
-    let mut readers = t.readers;
-    let mut forwards = t.forwards;
-    let mut mandates = t.mandates;
-    let mut users = d.versions;
-    let mut version = d.version;
-    let mut opened = kept.opened;
-    let mut counts = kept.counts;
-    let mut roots = kept.roots;
-    let mut reaches = kept.reaches;
-    let mut versions = kept.versions;
-    let mut denies = kept.denies;
-    let mut rolesets = kept.rolesets;
-    let answer = step(
-        &mut roles,
-        &mut readers,
-        &mut forwards,
-        &mut mandates,
-        &mut users,
-        &mut version,
-        &mut opened,
-        &mut counts,
-        &mut roots,
-        &mut reaches,
-        &mut versions,
-        &mut denies,
-        &mut rolesets,
-        call,
-    );
-    let tables = Tables {
-        roles,
-        readers,
-        forwards,
-        mandates,
-    };
-    let directory = Directory {
-        tables,
-        versions: users,
-        version,
-    };
-    let sessions = Sessions {
-        opened,
-        counts,
-        roots,
-        reaches,
-        versions,
-        denies,
-        rolesets,
-    };
-    Changed {
-        answer,
-        engine: Engine {
-            directory,
-            sessions,
-        },
-    }
+    let answer = carry_out(&mut e, call);
+    Changed { answer, engine: e }
 }
 
 // 01

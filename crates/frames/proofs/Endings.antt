@@ -24,7 +24,7 @@ use Rattle.protocol.specs.Run.{last_call, reply, replies, run, Fed, wrote, fed, 
 use Rattle.protocol.proofs.Laws.{more, run_more, more_end, more_line, feed_at_le, feed_there, no_feed_of, no_feed_before, no_more, one_line, fed_run, fed_left, fed_fits}
 use Rattle.output.specs.declared.Line.{Line}
 use Rattle.output.specs.declared.Line.TheVariants.{NoRoom}
-use Rattle.frames.specs.declared.stream.Fed.{Fed as Given}
+use Rattle.frames.specs.declared.lent.Fed.{Fed as Given}
 use Rattle.output.specs.Output.{ending, end_answer, end_written}
 use Rattle.frames.specs.Stream.{Feeds, takes_whole, ran_output, Ran}
 
@@ -107,18 +107,8 @@ room_enough input room l =
 
 -- ---- what is fed of the whole input, and its end behind it
 
--- arrays of zeros are a fresh engine
-abbrev zeros : Engine
-zeros =
-    engine_of (directory_of (tables_of (replicate user_count 0) (replicate database_count 0) (replicate database_count 0) (replicate database_count 0)) (replicate user_count 0) 0)
-    (sessions_of 0 (replicate all_sessions 0) (replicate place_count 0) (replicate place_count 0) (replicate place_count 0) (replicate place_count 0) (replicate role_set_count 0))
-
-is_fresh : zeros ≡ fresh
-unfolding fresh empty_tables
-is_fresh = refl
-
-pub from_fresh : {input old new : List ℕ} {e : Engine} {f : Given} → Feeds input old new e (fed (length old) zeros input) f → Feeds input old new e (fed (length old) fresh input) f
-from_fresh {input} {old} {new} {e} {f} g = subst (λ (e₀ : Engine). Feeds input old new e (fed (length old) e₀ input) f) is_fresh g
+pub from_fresh : {input old new : List ℕ} {e e₀ : Engine} {f : Given} → e₀ ≡ fresh → Feeds input old new e (fed (length old) e₀ input) f → Feeds input old new e (fed (length old) fresh input) f
+from_fresh {input} {old} {new} {e} {e₀} {f} q g = subst (λ (x : Engine). Feeds input old new e (fed (length old) x input) f) q g
 
 abbrev fed_in : List ℕ → List ℕ → Fed
 fed_in input old = fed (length old) fresh input

@@ -17,7 +17,7 @@ use Rattle.protocol.specs.Run.{reply, wrote, fed_from, fed}
 use Rattle.protocol.proofs.Laws.{NoFeed, no_room, fed_line}
 use Rattle.decoding.specs.Frames.{framing}
 use Rattle.decoding.proofs.Framing.{framing_same}
-use Rattle.frames.specs.declared.stream.Fed.{Fed as Given}
+use Rattle.frames.specs.declared.lent.Fed.{Fed as Given}
 use Rattle.frames.specs.Stream.{Answers, Feeds}
 
 pub fed_frame : (room : ℕ) (e : Engine) (line : List ℕ) → NoFeed line → longest ≤ room

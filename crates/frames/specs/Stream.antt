@@ -7,7 +7,7 @@ use Rattle.protocol.specs.Widths.{longest}
 use Rattle.model.specs.Calls.{after as Calls·after}
 use Rattle.protocol.specs.Lines.{call_of}
 use Rattle.protocol.specs.Run.{run, reply, Fed, fed, feed_at}
-use Rattle.frames.specs.declared.stream.Fed.{Fed as Given}
+use Rattle.frames.specs.declared.lent.Fed.{Fed as Given}
 use Rattle.output.specs.declared.Line.{Line}
 use Rattle.output.specs.declared.Line.TheVariants.{Written, NoRoom}
 

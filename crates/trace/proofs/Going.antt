@@ -16,7 +16,7 @@ use Rattle.protocol.specs.Widths.{longest}
 use Rattle.protocol.specs.Lines.{call_of}
 use Rattle.protocol.specs.Run.{reply, Fed, fed}
 use Rattle.protocol.proofs.Laws.{no_feed_before}
-use Rattle.frames.specs.declared.stream.Fed.{Fed as Given}
+use Rattle.frames.specs.declared.lent.Fed.{Fed as Given}
 use Rattle.frames.specs.Stream.{Feeds}
 use Rattle.frames.proofs.Framed.{fed_frame}
 use Rattle.trace.specs.declared.replaying.Outcome.TheVariants.{AllAgree, Differs, FrameLast, TooLong}

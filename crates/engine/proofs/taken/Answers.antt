@@ -5,4 +5,4 @@ use Rattle.engine.proofs.taken.Goals as goal
 
 pub returns : goal.returns
 unfolding answer after
-returns c = (ap (λ (d : Done Engine). d.answer) c.step-answer.ensures, ap (λ (d : Done Engine). d.after) c.step-answer.ensures)
+returns c = (ap (λ (d : Done Engine). d.answer) c.carry_out-answer.ensures, ap (λ (d : Done Engine). d.after) c.carry_out-answer.ensures)

@@ -2,7 +2,7 @@
 use Rattle.encoding.proofs.Writing.{wrote_length}
 use Rattle.step.proofs.Answers.{told_after}
 use Rattle.frames.proofs.Answering.{read_wrote, read_after, told_wrote}
-use Rattle.frames.proofs.stream.answer_call.Goals as goal
+use Rattle.frames.proofs.lent.answer_call.Goals as goal
 
 pub returns-in-Read : goal.returns-in-Read
 returns-in-Read c = record {

@@ -1,7 +1,7 @@
 use native.Mathlib.Omega.{arith}
 use borrow.Author.Tests.{not-true, not-false}
 use Rattle.frames.proofs.Feeding.{line_read, line_inside, feeding_start, feeding_step, out_long, written_fits, ends_whole, ends_full, ends_open}
-use Rattle.frames.proofs.stream.feed.Goals as goal
+use Rattle.frames.proofs.lent.feed.Goals as goal
 
 pub loop-at-init : goal.loop-at-init
 loop-at-init c = feeding_start _ _ _

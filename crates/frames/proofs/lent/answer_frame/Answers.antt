@@ -8,7 +8,7 @@ use lib.Seq.{length-take-le}
 use borrow.Author.Rules.{rules}
 use Rattle.protocol.specs.Widths.{kept}
 use Rattle.frames.proofs.Framed.{framed}
-use Rattle.frames.proofs.stream.answer_frame.Goals as goal
+use Rattle.frames.proofs.lent.answer_frame.Goals as goal
 
 -- the line and its line feed stand in the array
 fits : (bytes : List ℕ) (len : ℕ) → length bytes ≡ kept → len ≤ kept → len ≤ length bytes
