@@ -2,13 +2,14 @@
 -- Assumes nothing.
 use Prim.Native.Nat.{ℕ, suc, ◌+◌, ◌≤◌, ◌<◌}
 use mathlib.Core.Path.{◌≡◌, refl, sym, ◌∙◌}
-use mathlib.Core.Bool.{Bool, true, false, cond, ◌&&◌}
+use mathlib.Core.Bool.{Bool, true, false, not, cond, ◌&&◌}
 use mathlib.Core.List.{List, [], ◌∷◌}
 use native.Mathlib.Omega.{arith}
 use lib.Dec.{eqb}
-use lib.ListN.{length, get_or, take, drop, length-append, length-drop, drop_of_length-le}
-use lib.Seq.{drop-drop, drop-cons, take_at}
-use borrow.Author.Tests.{le-ltb, lt-ltb, eq-eqb, ne_eqb}
+use lib.ListN.{length, take, drop, length-append, length-drop, drop_of_length-le}
+use lib.Pointwise.{pointwise}
+use lib.Seq.{drop-drop, take_at}
+use borrow.Author.Tests.{not-true, not-false, le-ltb, lt-ltb}
 use Rattle.model.specs.declared.Engine.{Engine}
 use Rattle.model.specs.State.{fresh}
 use Rattle.model.specs.Calls.{after}
@@ -125,27 +126,18 @@ unlike_length (x ∷ xs) (y ∷ ys) n = go (eqb x y) (unlike_length xs ys (λ q.
     go true h = h
     go false h = refl
 
--- what is left of both has the answer of the whole
-pub record Comparing (a b : List ℕ) (i : ℕ) : Type 0 where
-  pub within : i ≤ length a
-  pub rest : same a b ≡ same (drop i a) (drop i b)
+-- ---- the same bytes
 
-pub comparing_start : (a b : List ℕ) → Comparing a b 0
-comparing_start a b = record { within = omega arith; rest = refl }
+-- the library's `==` of bytes is the definition's
+same_bytes : (a b : List ℕ) → pointwise eqb a b ≡ same a b
+unfolding same
+same_bytes [] [] = refl
+same_bytes [] (y ∷ ys) = refl
+same_bytes (x ∷ xs) [] = refl
+same_bytes (x ∷ xs) (y ∷ ys) = rw (same_bytes xs ys)
 
-module _ (a b : List ℕ) (i : ℕ) (c : Comparing a b i) (q : length a ≡ length b) where
-  both_here : i < length a → same (drop i a) (drop i b) ≡ (eqb (get_or a i 0) (get_or b i 0) && same (drop (suc i) a) (drop (suc i) b))
-  unfolding same
-  both_here l = rw (drop-cons a i 0 l, drop-cons b i 0 (omega arith))
+pub told_apart : (a b : List ℕ) {t : Bool} → t ≡ not (pointwise eqb a b) → t ≡ true → same a b ≡ false
+told_apart a b h q = rw (← same_bytes a b) (not-true _ (sym h ∙ q))
 
-  pub comparing_step : i < length a → get_or a i 0 ≡ get_or b i 0 → Comparing a b (i + 1)
-  comparing_step l e =
-      let n : suc i ≡ i + 1 = omega arith in
-      record { within = omega arith; rest = c.rest ∙ both_here l ∙ rw (eq-eqb (get_or a i 0) (get_or b i 0) e, n) }
-
-  pub comparing_unlike : i < length a → (get_or a i 0 ≡ get_or b i 0 → ⊥) → false ≡ same a b
-  comparing_unlike l n = sym (c.rest ∙ both_here l ∙ rw (ne_eqb (get_or a i 0) (get_or b i 0) n))
-
-  pub comparing_end : length a ≤ i → true ≡ same a b
-  unfolding same
-  comparing_end l = sym (c.rest ∙ rw (drop_of_length-le a l, drop_of_length-le b {i = i} (omega arith)))
+pub told_same : (a b : List ℕ) {t : Bool} → t ≡ not (pointwise eqb a b) → t ≡ false → same a b ≡ true
+told_same a b h q = rw (← same_bytes a b) (not-false _ (sym h ∙ q))

@@ -2,6 +2,7 @@
 -- Assumes nothing.
 use Prim.Native.Nat.{ℕ}
 use mathlib.Core.Path.{◌≡◌, ◌∙◌}
+use mathlib.Core.Logic.{◌⊎◌, inl, inr}
 use mathlib.Core.List.{List, [], ◌∷◌, ◌++◌, append-nil}
 use lib.ListN.{length, length-append}
 use Rattle.protocol.specs.Digits.{glyph, hex}
@@ -29,10 +30,7 @@ pub differs_line : {o : Outcome} {n : ℕ} {line : List ℕ} → o ≡ Differs n
 unfolding printed
 differs_line {n = n} p q = rw p (number_filled n q)
 
-pub last_line : {o : Outcome} {r : Printed} → o ≡ FrameLast → r ≡ filled (0x31 ∷ 0x30 ∷ 0x0a ∷ []) → r ≡ filled (printed o)
+pub sixteen_line : {o : Outcome} {r : Printed} → (o ≡ FrameLast) ⊎ (o ≡ TooLong) → r ≡ filled (0x31 ∷ 0x30 ∷ 0x0a ∷ []) → r ≡ filled (printed o)
 unfolding printed
-last_line p q = rw p q
-
-pub long_line : {o : Outcome} {r : Printed} → o ≡ TooLong → r ≡ filled (0x31 ∷ 0x30 ∷ 0x0a ∷ []) → r ≡ filled (printed o)
-unfolding printed
-long_line p q = rw p q
+sixteen_line (inl p) q = rw p q
+sixteen_line (inr p) q = rw p q

@@ -7,5 +7,5 @@ mod reader;
 mod replaying;
 
 pub use printing::{Printed, WIDEST, printed_line};
-pub use reader::{Trace, line_at, next, trace_at};
+pub use reader::{Trace, line_at};
 pub use replaying::{LIMIT, Outcome, replay};

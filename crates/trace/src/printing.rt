@@ -1,5 +1,5 @@
 // The line that is printed of a recorded run.
-ghost use Rattle.std.specs.Prelude.{◌≡◌, [], ◌∷◌};
+ghost use Rattle.std.specs.Prelude.{◌≡◌, [], ◌∷◌, take};
 ghost use Rattle.trace.specs.Outcomes.{printed};
 ghost use Rattle.trace.specs.Filled.{filled};
 
@@ -15,14 +15,21 @@ pub struct Printed {
     pub len: usize,
 }
 
+impl Printed {
+    // The line itself.
+    pub fn as_bytes(&self) -> &[u8]
+        ensures { result.now ≡ take self.now.len self.now.bytes }
+    {
+        &self.bytes[..self.len.min(WIDEST)]
+    }
+}
+
 // 16, which is told by its two digits alone.
 fn sixteen() -> Printed
     ensures { result ≡ filled (0x31 ∷ 0x30 ∷ 0x0a ∷ []) }
 {
     let mut bytes = [0u8; WIDEST];
-    bytes[0] = 49;
-    bytes[1] = 48;
-    bytes[2] = 10;
+    bytes[..3].copy_from_slice(b"10\n");
     Printed { bytes, len: 3 }
 }
 
@@ -39,7 +46,6 @@ pub fn printed_line(outcome: Outcome) -> Printed
             bytes: encoding::number_line(pair),
             len: WIDEST,
         },
-        Outcome::FrameLast => sixteen(),
-        Outcome::TooLong => sixteen(),
+        Outcome::FrameLast | Outcome::TooLong => sixteen(),
     }
 }

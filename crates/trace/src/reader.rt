@@ -11,7 +11,7 @@ pub struct Trace<'a> {
 }
 
 // The line that begins at a position: with its line feed where it has one, and nothing at the text's end.
-fn line_from<'a>(text: &'a [u8], at: usize) -> &'a [u8]
+fn line_from(text: &[u8], at: usize) -> &[u8]
     ensures { result.now ≡ line_at text.now at }
 {
     let len = text.len();
@@ -25,26 +25,27 @@ fn line_from<'a>(text: &'a [u8], at: usize) -> &'a [u8]
     &text[at..]
 }
 
-// A reader of this text, whose next unread line begins at a position.
-pub fn trace_at<'a>(text: &'a [u8], at: usize) -> Trace<'a>
-    ensures { (result.text ≡ text.entry) × (result.at ≡ at) }
-{
-    Trace { text, at }
-}
+impl<'a> Trace<'a> {
+    // A reader of this text, whose next unread line begins at a position.
+    pub fn at(text: &'a [u8], at: usize) -> Self
+        ensures { (result.text ≡ text.entry) × (result.at ≡ at) }
+    {
+        Trace { text, at }
+    }
 
-// Hands out the next unread line, and has read it.
-pub fn next<'s, 'a>(trace: &'s mut Trace<'a>) -> &'a [u8]
-    ensures { (result.now ≡ line_at trace.old.text.now trace.old.at) × (trace.new.text ≡ trace.old.text) × (trace.new.at ≡ trace.old.at + length result.now) }
-{
-    let line = line_from(trace.text, trace.at);
-    trace.at = trace.at + line.len();
-    line
+    // Hands out the next unread line, and has read it.
+    pub fn next(&mut self) -> &'a [u8]
+        ensures { (result.now ≡ line_at self.old.text.now self.old.at) × (self.new.text ≡ self.old.text) × (self.new.at ≡ self.old.at + length result.now) }
+    {
+        let line = line_from(self.text, self.at);
+        self.at += line.len();
+        line
+    }
 }
 
 // The line that begins at a position of a text, by a reader of its own.
-pub fn line_at<'a>(text: &'a [u8], at: usize) -> &'a [u8]
+pub fn line_at(text: &[u8], at: usize) -> &[u8]
     ensures { result.now ≡ line_at text.now at }
 {
-    let mut trace = trace_at(text, at);
-    next(&mut trace)
+    Trace::at(text, at).next()
 }

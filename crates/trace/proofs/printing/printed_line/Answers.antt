@@ -1,5 +1,5 @@
 -- Each case has its line.
-use Rattle.trace.proofs.PrintedLines.{agree_line, differs_line, last_line, long_line}
+use Rattle.trace.proofs.PrintedLines.{agree_line, differs_line, sixteen_line}
 use Rattle.trace.proofs.printing.printed_line.Goals as goal
 
 pub returns-in-AllAgree : goal.returns-in-AllAgree
@@ -9,7 +9,4 @@ pub returns-in-Differs : goal.returns-in-Differs
 returns-in-Differs c = differs_line c.in-Differs.is c.number_line-in-Differs.ensures
 
 pub returns-in-FrameLast : goal.returns-in-FrameLast
-returns-in-FrameLast c = last_line c.in-FrameLast.is c.sixteen.ensures
-
-pub returns-in-TooLong : goal.returns-in-TooLong
-returns-in-TooLong c = long_line c.in-TooLong.is c.sixteen-in-TooLong.ensures
+returns-in-FrameLast c = sixteen_line c.in-FrameLast.is c.sixteen.ensures

@@ -1,18 +1,15 @@
-use mathlib.Core.Path.{refl, sym, ◌∙◌}
+use mathlib.Core.Path.{refl, sym}
 use native.Mathlib.Omega.{arith}
 use lib.Seq.{length-take-le}
 use borrow.Author.Rules.{rules}
-use Rattle.tables.specs.Tables.{fresh as empty_tables}
-use Rattle.model.specs.State.{fresh}
-use Rattle.trace.proofs.Going.{going_start, line_within, some_bytes, going_end, going_last, going_step, going_differs, written_within, too_long}
+use Rattle.trace.proofs.Going.{going_start, line_within, some_bytes, going_end, going_last, going_step, going_differs, written_within, too_long, told_apart, told_same}
 use Rattle.trace.proofs.replaying.replay.Goals as goal
 
 pub returns-then-text-gt-LIMIT : goal.returns-then-text-gt-LIMIT
 returns-then-text-gt-LIMIT c = too_long _ (omega (arith, c.if-text-gt-LIMIT.true))
 
 pub loop-at-init : goal.loop-at-init
-unfolding fresh empty_tables
-loop-at-init c = (going_start _, refl)
+loop-at-init c = rw c.fresh-engine.ensures (going_start _, refl)
 
 pub overflow_add-behind : goal.overflow_add-behind
 overflow_add-behind c =
@@ -29,13 +26,13 @@ slice_bounds-feed-end c = sym c.loop-at.invariant.1
 pub slice_bounds-answer-end : goal.slice_bounds-answer-end
 slice_bounds-answer-end c = written_within c.feed-fed.ensures
 
-pub slice_bounds-is_same-end : goal.slice_bounds-is_same-end
-slice_bounds-is_same-end c = sym (length-take-le _ _ (written_within c.feed-fed.ensures))
+pub slice_bounds-ne-end : goal.slice_bounds-ne-end
+slice_bounds-ne-end c = sym (length-take-le _ _ (written_within c.feed-fed.ensures))
 
-pub returns-then-not-is_same : goal.returns-then-not-is_same
-returns-then-not-is_same c =
+pub returns-then-ne : goal.returns-then-ne
+returns-then-ne c =
     going_differs _ _ _ _ c.loop-at.invariant.0 (omega (arith, c.if-text-gt-LIMIT.false)) (omega (arith, c.loop-at-test.true)) _ c.line_at-frame.ensures (omega (arith, c.if-text-behind.false)) _ c.line_at-given.ensures _ _ _ _ c.feed-fed.ensures (omega (arith, c.loop-at.invariant.1))
-    (sym c.is_same.ensures ∙ c.if-not-is_same.true)
+    (told_apart _ _ c.ne.ensures c.if-ne.true)
 
 pub overflow_add-at : goal.overflow_add-at
 overflow_add-at c =
@@ -59,7 +56,7 @@ loop-at-smaller c =
 pub loop-at-preserved : goal.loop-at-preserved
 loop-at-preserved c = (
   going_step _ _ _ _ c.loop-at.invariant.0 (omega (arith, c.if-text-gt-LIMIT.false)) (omega (arith, c.loop-at-test.true)) _ c.line_at-frame.ensures (omega (arith, c.if-text-behind.false)) _ c.line_at-given.ensures _ _ _ _ c.feed-fed.ensures (omega (arith, c.loop-at.invariant.1)) (omega arith) (omega arith)
-      (sym c.is_same.ensures ∙ c.if-not-is_same.false),
+      (told_same _ _ c.ne.ensures c.if-ne.false),
   search rules,
 )
 
