@@ -27,7 +27,7 @@ use Rattle.protocol.specs.Lines.{line_feed, role_sets, values, shown_sets, line_
 use Rattle.protocol.specs.Run.{shown_in}
 use Rattle.protocol.proofs.Laws.{hex_length, values_length}
 use Rattle.answers.specs.Answers.{has_place, shown_place}
-use Rattle.output.specs.declared.Line.TheVariants.{Written, NoRoom}
+use Rattle.std.specs.Prelude.{Some, None}
 use Rattle.output.specs.Output.{room_at}
 use Rattle.output.proofs.Laws.{stored}
 use Rattle.encoding.specs.Written.{Wrote, Puts, constraint_of, writable, line_answer, line_written}
@@ -78,14 +78,6 @@ wrote_place {at = at} n v w = w.place ∙ ap (λ (m : ℕ). at + m) (hex_length 
 hex_suc : (n v : ℕ) → hex (suc n) v ≡ hex n (v / 16) ++ (glyph (v % 16) ∷ [])
 unfolding hex
 hex_suc n v = refl
-
-hex_two : (v : ℕ) → hex 2 v ≡ glyph (v / 16 % 16) ∷ glyph (v % 16) ∷ []
-unfolding hex
-hex_two v = refl
-
--- two digits, stored one after the other
-pub wrote_two : (old : List ℕ) (at v : ℕ) {a b : ℕ} → a ≡ glyph (v / 16 % 16) → b ≡ glyph (v % 16) → at + 2 ≤ length old → Wrote old (set (set old at a) (at + 1) b) at (at + 2) (hex 2 v)
-wrote_two old at v p q l = rw (hex_two, ← p, ← q, add-one at) (wrote_stores (_ ∷ _ ∷ []) old at l)
 
 -- n digits of v from `at` on, of which the last are written, and the first k, which are those of x, are not
 pub record Digits (old : List ℕ) (at n v : ℕ) (new : List ℕ) (x k : ℕ) : Type 0 where
@@ -139,10 +131,6 @@ wrote_set n s first second = rw (add-one n) (wrote_both first second)
 pub wrote_values : {old new : List ℕ} {at next : ℕ} (a : Answer) (c : Constraint) → shown_sets a ≤ flow_count → Wrote old new at next (values a c) → next ≤ at + (version_digits + set_digits * (1 + flow_count))
 wrote_values a c l w = omega (arith, w.place, values_length a c l)
 
--- a line feed
-pub wrote_feed : (old : List ℕ) (at : ℕ) → at < length old → Wrote old (set old at line_feed) at (at + 1) (line_feed ∷ [])
-wrote_feed old at l = wrote_stores (line_feed ∷ []) old at (omega arith)
-
 -- a write from the start that is as long as the buffer is all of it
 pub wrote_whole : {old new bytes : List ℕ} {next : ℕ} → Wrote old new 0 next bytes → length bytes ≡ length old → new ≡ bytes
 wrote_whole {old} {new} {bytes} w q = w.holds ∙ rw (zero-add (length bytes), q, drop-length old, append-nil)
@@ -152,9 +140,9 @@ pub number_length : (v : ℕ) → length (hex set_digits v ++ (line_feed ∷ [])
 number_length v = length-append (hex set_digits v) (line_feed ∷ []) ∙ ap (λ (n : ℕ). n + 1) (hex_length set_digits v)
 
 -- the parts of a line, and its line feed
-pub wrote_line : {x y z : List ℕ} {i j k : ℕ} (a : Answer) (c : Constraint) (v : ℕ) → v ≡ returned (verdict_of a) → Wrote x y i j (hex 2 v) → Wrote y z j k (values a c) → k < length z → Wrote x (set z k line_feed) i (k + 1) (line_of a c)
+pub wrote_line : {x y z w : List ℕ} {i j k l : ℕ} (a : Answer) (c : Constraint) (v : ℕ) → v ≡ returned (verdict_of a) → Wrote x y i j (hex 2 v) → Wrote y z j k (values a c) → Wrote z w k l (line_feed ∷ []) → Wrote x w i l (line_of a c)
 unfolding line_of
-wrote_line {z = z} {k = k} a c v e two rest l = rw (← e) (wrote_both two (wrote_both rest (wrote_feed z k l)))
+wrote_line a c v e two rest feed = rw (← e) (wrote_both two (wrote_both rest feed))
 
 -- ---- how many role sets an answer shows
 
@@ -192,13 +180,13 @@ pub fitting : (out : List ℕ) (a : Answer) → longest ≤ length out → leb (
 unfolding writable
 fitting out a l m = rw (le-leb longest (length out) l) m
 
-pub no_line : (out : List ℕ) (a : Answer) (c : Constraint) → writable out a ≡ false → (NoRoom ≡ line_answer out a c) × (out ≡ line_written out a c)
+pub no_line : (out : List ℕ) (a : Answer) (c : Constraint) → writable out a ≡ false → (None ≡ line_answer out a c) × (out ≡ line_written out a c)
 unfolding line_answer line_written
 no_line out a c e = (rw e, rw e)
 
-pub whole_line : {out new : List ℕ} {n : ℕ} (a : Answer) (c : Constraint) → writable out a ≡ true → Wrote out new 0 n (line_of a c) → (Written n ≡ line_answer out a c) × (new ≡ line_written out a c)
+pub whole_line : {out new : List ℕ} {n : ℕ} (a : Answer) (c : Constraint) → writable out a ≡ true → Wrote out new 0 n (line_of a c) → (Some n ≡ line_answer out a c) × (new ≡ line_written out a c)
 unfolding line_answer line_written
-whole_line a c e w = (rw e (ap Written (rw zero-add at w.place)), rw e (rw zero-add at w.holds))
+whole_line a c e w = (rw e (ap Some (rw zero-add at w.place)), rw e (rw zero-add at w.holds))
 
 -- ---- a line from a place on
 
@@ -222,6 +210,10 @@ role_sets_same : (n : ℕ) (a b : List ℕ) → ((i : ℕ) → i < n → get_or 
 unfolding role_sets
 role_sets_same zero a b h = refl
 role_sets_same (suc n) a b h = rw (role_sets_same n a b (λ i l. h i (omega arith)), h n (omega arith))
+
+-- a part of role sets is what is written of them all
+pub part_written : (n : ℕ) (sets : List ℕ) → n + 1 ≤ length sets → role_sets (length (take (n + 1) sets)) (take (n + 1) sets) ≡ role_sets (suc n) sets
+part_written n sets l = rw (length-take-le (n + 1) sets l, add-one n) (role_sets_same (suc n) (take (suc n) sets) sets (λ i h. get_or-take (suc n) sets i 0 h))
 
 part_sets : (S : Sessions) (s f i : ℕ) → i < flow_count → get_or (take flow_count (drop (place s f * flow_count) S.rolesets)) i 0 ≡ get_or (constraint_at S s f).roles i 0
 unfolding constraint_at roleset_at set_place

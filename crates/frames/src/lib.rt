@@ -6,7 +6,7 @@ mod stream;
 mod whole;
 
 pub use decoding::{keep, read_call};
-pub use encoding::{Line, answer_line};
+pub use encoding::answer_line;
 pub use protocol::{KEPT, LONGEST, SET_DIGITS, VERSION_DIGITS};
 pub use stream::{Fed, answer_frame, feed, finish};
 pub use whole::run;

@@ -2,12 +2,11 @@
 ghost use Rattle.frames.specs.Stream.{Ran};
 
 use super::stream;
-use encoding::Line;
 use model::{Engine, Version};
 
-// The run of the program on this input, at the start of `out`. Where there is no room, `out` begins
-// with the answers up to there.
-pub fn run(input: &[u8], out: &mut [u8]) -> Line
+// The run of the program on this input, at the start of `out`, and how long it is. Where there is no
+// room, None, and `out` begins with the answers up to there.
+pub fn run(input: &[u8], out: &mut [u8]) -> Option<usize>
     ensures { Ran input.now out.old out.new result }
 {
     let mut roles = [0u64; Engine::USERS];
@@ -42,7 +41,7 @@ pub fn run(input: &[u8], out: &mut [u8]) -> Line
     );
     let from = fed.consumed;
     if decoding::find_feed(input, from) < input.len() {
-        return Line::NoRoom;
+        return None;
     }
     encoding::write_end(input.len() - from, out, fed.written)
 }

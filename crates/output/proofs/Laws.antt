@@ -14,8 +14,6 @@ use borrow.Author.Tests.{le-leb, lt-leb, lt-ltb, le-ltb, leb-true}
 use Rattle.protocol.specs.Widths.{longest}
 use Rattle.protocol.specs.Digits.{glyph}
 use Rattle.protocol.specs.Lines.{line_feed}
-use Rattle.output.specs.declared.Line.{Line}
-use Rattle.output.specs.declared.Line.TheVariants.{Written, NoRoom}
 use Rattle.output.specs.Output.{placed, room_at, ending, end_answer, end_written}
 
 -- bytes that are stored one after the other
@@ -49,35 +47,3 @@ pub room_there : (out : List ℕ) (at : ℕ) → room_at out at ≡ true → at 
 unfolding room_at
 room_there out at e = leb-true (at + longest) (length out) e
 
--- ---- the end of input
-
-abbrev Ended : List ℕ → List ℕ → ℕ → List ℕ → Line → Type 0
-Ended old new at bytes r = (r ≡ end_answer old at bytes) × (new ≡ end_written old at bytes)
-
--- the place is past the buffer's end
-pub ended_past : (old : List ℕ) (len at : ℕ) → length old < at → Ended old old at (ending len) NoRoom
-unfolding end_answer end_written
-ended_past old len at l = rw (lt-leb (at + length (ending len)) (length old) (omega arith)) (refl, refl)
-
--- no line has begun
-pub ended_none : (old : List ℕ) (len at : ℕ) → len ≡ 0 → at ≤ length old → Ended old old at (ending len) (Written at)
-unfolding ending end_answer end_written
-ended_none old len at q l = let z : at + 0 ≡ at = omega arith in rw (q, z, le-leb at (length old) l) (refl, sym (take-append-drop at old))
-
-three : (len : ℕ) → (len ≡ 0 → ⊥) → ending len ≡ 48 ∷ 49 ∷ line_feed ∷ []
-unfolding ending
-three zero h = absurd (h refl)
-three (suc n) h = refl
-
--- too little room
-pub ended_short : (old : List ℕ) (len at : ℕ) → (len ≡ 0 → ⊥) → at ≤ length old → length old - at < 3 → Ended old old at (ending len) NoRoom
-unfolding end_answer end_written
-ended_short old len at q l h = rw (three len q, lt-leb (at + 3) (length old) (omega arith)) (refl, refl)
-
--- the number is stored
-pub ended_line : (old : List ℕ) (len at : ℕ) → (len ≡ 0 → ⊥) → at ≤ length old → 3 ≤ length old - at → Ended old (set (set (set old at 48) (at + 1) 49) (at + 2) 10) at (ending len) (Written (at + 3))
-unfolding end_answer end_written
-ended_line old len at q l h = rw (three len q, le-leb (at + 3) (length old) (omega arith)) (refl, rw (add-one at, add_two at) (stored (48 ∷ 49 ∷ line_feed ∷ []) old at (omega arith)))
-  where
-    add_two : (n : ℕ) → n + 2 ≡ suc (suc n)
-    add_two n = omega arith
