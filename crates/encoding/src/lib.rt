@@ -11,17 +11,29 @@ ghost use Rattle.protocol.specs.Lines.{line_feed, role_sets, values, shown_sets,
 ghost use Rattle.protocol.specs.Run.{shown_in};
 ghost use Rattle.answers.specs.Answers.{has_place};
 ghost use Rattle.output.specs.Output.{room_at};
-ghost use Rattle.encoding.specs.Written.{Wrote, Puts, line_answer, line_written};
+ghost use Rattle.encoding.specs.Written.{Wrote, Puts, constraint_of, line_answer, line_written};
 
 use model::{Answer, Constraint, Engine, Version};
 pub use output::write_end;
 use protocol::{LONGEST, SET_DIGITS, VERSION_DIGITS};
 
+// A constraint's parts where they lie.
+// Kept: `model::Constraint` has its role sets in itself, and to copy them for each answer takes 3
+// instructions in 100 more on a list `mixed`.
+#[derive(Clone, Copy)]
+struct Shown<'a> {
+    version: Version,
+    deny: u64,
+    roles: &'a [u64],
+}
+
 // How many digits a line begins with, and a field has.
 const FIELD_DIGITS: usize = 2;
 
-// The last N digits of v, written from the last one, which needs no power of 16. For so few digits the
-// compiler makes no loop of it.
+// The last N digits of v, written from the last one, which needs no power of 16. Since N is known where
+// it is compiled, no loop is left of it.
+// Kept: a place and the buffer are handed on, here and below. A struct that held both would have to
+// promise in each method that it still lends the same buffer.
 fn write_hex<const N: usize>(v: u64, out: &mut [u8], at: usize) -> usize
     requires { at + N ≤ length out.old }
     ensures { Wrote out.old out.new at result (hex N v) }
@@ -56,13 +68,13 @@ fn write_sets(sets: &[u64], out: &mut [u8], at: usize) -> usize
 }
 
 // A flow's constraint, with the role sets up to its own.
-fn write_constraint(c: &Constraint, flow: usize, out: &mut [u8], at: usize) -> usize
-    requires { (flow < flow_count) × (at + (version_digits + set_digits + set_digits * suc flow) ≤ length out.old) }
-    ensures { Wrote out.old out.new at result (hex version_digits c.now.version ++ (hex set_digits c.now.deny ++ role_sets (suc flow) c.now.roles)) }
+fn write_constraint(shown: Shown, flow: usize, out: &mut [u8], at: usize) -> usize
+    requires { (flow < length shown.roles.now) × (at + (version_digits + set_digits + set_digits * suc flow) ≤ length out.old) }
+    ensures { Wrote out.old out.new at result (hex version_digits shown.entry.version ++ (hex set_digits shown.entry.deny ++ role_sets (suc flow) shown.entry.roles.now)) }
 {
-    let next = write_hex::<VERSION_DIGITS>(c.version as u64, out, at);
-    let next = write_hex::<SET_DIGITS>(c.deny, out, next);
-    write_sets(&c.roles[..flow + 1], out, next)
+    let next = write_hex::<VERSION_DIGITS>(shown.version as u64, out, at);
+    let next = write_hex::<SET_DIGITS>(shown.deny, out, next);
+    write_sets(&shown.roles[..flow + 1], out, next)
 }
 
 // A new flow's number, reach and version.
@@ -76,10 +88,10 @@ fn write_flow(number: usize, reach: u32, version: Version, out: &mut [u8], at: u
 }
 
 // What follows the first two digits of a line; the constraint is that of the flow that the answer shows.
-fn write_values(a: Answer, c: &Constraint, out: &mut [u8], at: usize) -> usize
-    requires a_bound { shown_sets a ≤ flow_count }
+fn write_values(a: Answer, shown: Shown, out: &mut [u8], at: usize) -> usize
+    requires a_bound { (shown_sets a ≤ flow_count) × (flow_count ≤ length shown.roles.now) }
     requires flow_count_in_bounds { at + (version_digits + set_digits * (1 + flow_count)) ≤ length out.old }
-    ensures { Wrote out.old out.new at result (values a c.now) }
+    ensures { Wrote out.old out.new at result (values a (constraint_of shown.entry.version shown.entry.deny shown.entry.roles.now)) }
 {
     match a {
         Answer::Version(v) => write_hex::<VERSION_DIGITS>(v as u64, out, at),
@@ -89,19 +101,19 @@ fn write_values(a: Answer, c: &Constraint, out: &mut [u8], at: usize) -> usize
             reach,
             version,
         } => write_flow(number, reach, version, out, at),
-        Answer::Constraint { flow, .. } => write_constraint(c, flow, out, at),
+        Answer::Constraint { flow, .. } => write_constraint(shown, flow, out, at),
         Answer::Granted | Answer::Refused(_) => at,
     }
 }
 
 // The line of an answer, from a place on that leaves room for every line.
-fn write_line(a: Answer, c: &Constraint, out: &mut [u8], at: usize) -> usize
-    requires a_bound { shown_sets a ≤ flow_count }
+fn write_line(a: Answer, shown: Shown, out: &mut [u8], at: usize) -> usize
+    requires a_bound { (shown_sets a ≤ flow_count) × (flow_count ≤ length shown.roles.now) }
     requires longest_in_bounds { at + longest ≤ length out.old }
-    ensures { Wrote out.old out.new at result (line_of a c.now) }
+    ensures { Wrote out.old out.new at result (line_of a (constraint_of shown.entry.version shown.entry.deny shown.entry.roles.now)) }
 {
     let next = write_hex::<FIELD_DIGITS>(answers::returned(a), out, at);
-    let next = write_values(a, c, out, next);
+    let next = write_values(a, shown, out, next);
     write_feed(out, next)
 }
 
@@ -142,14 +154,12 @@ pub fn write_answer(
     }
     let k = answers::shown_place(a);
     let from = k * Engine::FLOWS;
-    let mut roles = [0; Engine::FLOWS];
-    roles.copy_from_slice(&rolesets[from..from + Engine::FLOWS]);
-    let shown = Constraint {
+    let shown = Shown {
         version: versions[k],
         deny: denies[k],
-        roles,
+        roles: &rolesets[from..from + Engine::FLOWS],
     };
-    write_line(a, &shown, out, at)
+    write_line(a, shown, out, at)
 }
 
 // Whether an answer shows no more role sets than a constraint has.
@@ -172,5 +182,10 @@ pub fn answer_line(a: Answer, c: Constraint, out: &mut [u8]) -> Option<usize>
     if out.len() < LONGEST || !is_writable(a) {
         return None;
     }
-    Some(write_line(a, &c, out, 0))
+    let shown = Shown {
+        version: c.version,
+        deny: c.deny,
+        roles: &c.roles,
+    };
+    Some(write_line(a, shown, out, 0))
 }

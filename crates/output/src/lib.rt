@@ -9,19 +9,14 @@ ghost use Rattle.output.specs.Output.{room_at, ending, end_answer, end_written};
 use protocol::LONGEST;
 
 // The digit of v's last four bits.
+// Kept: this sum has no branch. With one, `reads` takes a tenth more time, and with a table more than
+// with the sum too (docs/PERFORMANCE.md).
 #[tactic(auto, unfolding(protocol::specs::Digits::glyph))]
 pub fn glyph(v: u64) -> u8
     ensures { result ≡ glyph (v % 16) }
 {
     let d = v % 16;
     (48 + d + (d + 6) / 16 * 39) as u8
-}
-
-// The digit before it.
-pub fn high_glyph(v: u64) -> u8
-    ensures { result ≡ glyph (v / 16 % 16) }
-{
-    glyph(v / 16)
 }
 
 // Whether every line has room from a place on.

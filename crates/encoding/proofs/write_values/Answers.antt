@@ -7,8 +7,8 @@ use Rattle.encoding.proofs.write_values.Goals as goal
 
 pub write_constraint-requires : goal.write_constraint-requires
 write_constraint-requires c =
-    let l = shown_below _ _ _ c.in-Constraint.is c.requires.a_bound in
-    (l, omega arith)
+    let l = shown_below _ _ _ c.in-Constraint.is c.requires.a_bound.0 in
+    (omega (arith, l, c.requires.a_bound.1), omega arith)
 
 -- a version
 pub returns-in-Version : goal.returns-in-Version
