@@ -3,15 +3,15 @@
 -- Assumes nothing.
 use Prim.Native.Nat.{ℕ, zero, suc, ◌+◌, ◌-◌, ◌*◌, ◌/◌, ◌%◌, ◌≤◌, ◌<◌}
 use mathlib.Core.Path.{◌≡◌, refl, sym, ap, ◌∙◌, subst}
-use mathlib.Core.Bool.{Bool, true, false, ◌&&◌, and-false}
+use mathlib.Core.Bool.{Bool, true, ◌&&◌}
 use mathlib.Core.List.{List, [], ◌∷◌, ◌++◌, append_assoc, append-nil}
 use native.Mathlib.Nat.{add-zero, zero-add}
 use native.Mathlib.Numerals.{add-one}
 use native.Mathlib.Omega.{arith}
-use lib.Dec.{leb, ltb}
+use lib.Dec.{ltb}
 use lib.ListN.{length, get_or, take, drop, set, replicate, length-append, length-take, length-drop, length-set, take-append-drop}
 use lib.Seq.{get_or-take, get_or-drop, sets, length-take-le, take_at, drop_at, take-suc, drop-drop, drop-length, set_at}
-use borrow.Author.Tests.{le-leb, lt-leb, ltb-true}
+use borrow.Author.Tests.{ltb-true}
 use Rattle.sets.proofs.Laws.{and_both}
 use Rattle.model.specs.declared.Constraint.{Constraint}
 use Rattle.model.specs.declared.Sessions.{Sessions}
@@ -21,25 +21,20 @@ use Rattle.model.specs.Limits.{flow_count}
 use Rattle.model.specs.State.{all_sessions, filled, place, set_place, roleset_at}
 use Rattle.model.specs.Calls.{returned, verdict_of, constraint_at}
 use Rattle.model.proofs.Laws.{get_d_filled}
-use Rattle.protocol.specs.Widths.{version_digits, set_digits, longest}
+use Rattle.protocol.specs.Widths.{version_digits, set_digits}
 use Rattle.protocol.specs.Digits.{glyph, hex}
 use Rattle.protocol.specs.Lines.{line_feed, role_sets, values, shown_sets, line_of}
 use Rattle.protocol.specs.Run.{shown_in}
 use Rattle.protocol.proofs.Laws.{hex_length, values_length}
 use Rattle.answers.specs.Answers.{has_place, shown_place}
-use Rattle.output.specs.declared.Line.TheVariants.{Written, NoRoom}
 use Rattle.output.specs.Output.{room_at}
-use Rattle.output.proofs.Laws.{stored}
-use Rattle.encoding.specs.Written.{Wrote, Puts, constraint_of, writable, line_answer, line_written}
+use Rattle.encoding.specs.Written.{Wrote, Puts, constraint_of}
 
 -- ---- writes
 
--- bytes that are stored one after the other
-pub wrote_stores : (bytes old : List ℕ) (at : ℕ) → at + length bytes ≤ length old → Wrote old (sets old at bytes) at (at + length bytes) bytes
-wrote_stores bytes old at l = record { room = l; place = refl; holds = stored bytes old at l }
-
+-- nothing is written
 pub wrote_nothing : (old : List ℕ) (at : ℕ) → at ≤ length old → Wrote old old at at []
-wrote_nothing old at l = record { room = omega arith; place = omega arith; holds = (wrote_stores [] old at (omega arith)).holds }
+wrote_nothing old at l = record { room = omega arith; place = omega arith; holds = rw add-zero (sym (take-append-drop at old)) }
 
 -- a write does not change the length
 pub wrote_length : {old new : List ℕ} {at next : ℕ} {bytes : List ℕ} → Wrote old new at next bytes → length new ≡ length old
@@ -69,23 +64,15 @@ wrote_both {a} {b} {c} {xs} {ys} {i} {j} {k} first second =
 pub wrote_same : {old new : List ℕ} {at next : ℕ} {a b : List ℕ} → a ≡ b → Wrote old new at next a → Wrote old new at next b
 wrote_same {old} {new} {at} {next} q w = subst (λ (bytes : List ℕ). Wrote old new at next bytes) q w
 
--- where n digits end
-pub wrote_place : {old new : List ℕ} {at next : ℕ} (n v : ℕ) → Wrote old new at next (hex n v) → next ≡ at + n
-wrote_place {at = at} n v w = w.place ∙ ap (λ (m : ℕ). at + m) (hex_length n v)
+-- where n digits end, and that they don't change the length
+pub wrote_hex : {old new : List ℕ} {at next : ℕ} (n v : ℕ) → Wrote old new at next (hex n v) → (next ≡ at + n) × (length new ≡ length old)
+wrote_hex {at = at} n v w = (w.place ∙ ap (λ (m : ℕ). at + m) (hex_length n v), wrote_length w)
 
 -- ---- digits
 
 hex_suc : (n v : ℕ) → hex (suc n) v ≡ hex n (v / 16) ++ (glyph (v % 16) ∷ [])
 unfolding hex
 hex_suc n v = refl
-
-hex_two : (v : ℕ) → hex 2 v ≡ glyph (v / 16 % 16) ∷ glyph (v % 16) ∷ []
-unfolding hex
-hex_two v = refl
-
--- two digits, stored one after the other
-pub wrote_two : (old : List ℕ) (at v : ℕ) {a b : ℕ} → a ≡ glyph (v / 16 % 16) → b ≡ glyph (v % 16) → at + 2 ≤ length old → Wrote old (set (set old at a) (at + 1) b) at (at + 2) (hex 2 v)
-wrote_two old at v p q l = rw (hex_two, ← p, ← q, add-one at) (wrote_stores (_ ∷ _ ∷ []) old at l)
 
 -- n digits of v from `at` on, of which the last are written, and the first k, which are those of x, are not
 pub record Digits (old : List ℕ) (at n v : ℕ) (new : List ℕ) (x k : ℕ) : Type 0 where
@@ -139,10 +126,6 @@ wrote_set n s first second = rw (add-one n) (wrote_both first second)
 pub wrote_values : {old new : List ℕ} {at next : ℕ} (a : Answer) (c : Constraint) → shown_sets a ≤ flow_count → Wrote old new at next (values a c) → next ≤ at + (version_digits + set_digits * (1 + flow_count))
 wrote_values a c l w = omega (arith, w.place, values_length a c l)
 
--- a line feed
-pub wrote_feed : (old : List ℕ) (at : ℕ) → at < length old → Wrote old (set old at line_feed) at (at + 1) (line_feed ∷ [])
-wrote_feed old at l = wrote_stores (line_feed ∷ []) old at (omega arith)
-
 -- a write from the start that is as long as the buffer is all of it
 pub wrote_whole : {old new bytes : List ℕ} {next : ℕ} → Wrote old new 0 next bytes → length bytes ≡ length old → new ≡ bytes
 wrote_whole {old} {new} {bytes} w q = w.holds ∙ rw (zero-add (length bytes), q, drop-length old, append-nil)
@@ -152,64 +135,21 @@ pub number_length : (v : ℕ) → length (hex set_digits v ++ (line_feed ∷ [])
 number_length v = length-append (hex set_digits v) (line_feed ∷ []) ∙ ap (λ (n : ℕ). n + 1) (hex_length set_digits v)
 
 -- the parts of a line, and its line feed
-pub wrote_line : {x y z : List ℕ} {i j k : ℕ} (a : Answer) (c : Constraint) (v : ℕ) → v ≡ returned (verdict_of a) → Wrote x y i j (hex 2 v) → Wrote y z j k (values a c) → k < length z → Wrote x (set z k line_feed) i (k + 1) (line_of a c)
+pub wrote_line : {x y z w : List ℕ} {i j k l : ℕ} (a : Answer) (c : Constraint) (v : ℕ) → v ≡ returned (verdict_of a) → Wrote x y i j (hex 2 v) → Wrote y z j k (values a c) → Wrote z w k l (line_feed ∷ []) → Wrote x w i l (line_of a c)
 unfolding line_of
-wrote_line {z = z} {k = k} a c v e two rest l = rw (← e) (wrote_both two (wrote_both rest (wrote_feed z k l)))
+wrote_line a c v e two rest feed = rw (← e) (wrote_both two (wrote_both rest feed))
 
 -- ---- how many role sets an answer shows
-
--- whether they are no more than there are
-pub writable_sets : (a : Answer) (s f : ℕ) → a ≡ Answer-as-Constraint s f → ltb f flow_count ≡ leb (shown_sets a) flow_count
-unfolding shown_sets
-writable_sets a s f e = rw e
-
--- by what the code's test leaves
-pub writable_none : (a : Answer) → ((s f : ℕ) → a ≡ Answer-as-Constraint s f → ⊥) → true ≡ leb (shown_sets a) flow_count
-unfolding shown_sets
-writable_none (Version v) h = refl
-writable_none (Roles m) h = refl
-writable_none (Flow n k v) h = refl
-writable_none Granted h = refl
-writable_none (Answer-as-Constraint s f) h = absurd (h s f refl)
-writable_none (Refused why) h = refl
 
 -- a flow that is shown, where no more role sets are shown than there are
 pub shown_below : (a : Answer) (s f : ℕ) → a ≡ Answer-as-Constraint s f → shown_sets a ≤ flow_count → f < flow_count
 unfolding shown_sets
 shown_below a s f e l = rw e at l
 
--- ---- a line that another program asks for: no room, too many role sets, or neither
-
-pub short : (out : List ℕ) (a : Answer) → length out < longest → writable out a ≡ false
-unfolding writable
-short out a l = rw (lt-leb longest (length out) l)
-
-pub many : (out : List ℕ) (a : Answer) → longest ≤ length out → leb (shown_sets a) flow_count ≡ false → writable out a ≡ false
-unfolding writable
-many out a l m = rw (le-leb longest (length out) l) m
-
-pub fitting : (out : List ℕ) (a : Answer) → longest ≤ length out → leb (shown_sets a) flow_count ≡ true → writable out a ≡ true
-unfolding writable
-fitting out a l m = rw (le-leb longest (length out) l) m
-
-pub no_line : (out : List ℕ) (a : Answer) (c : Constraint) → writable out a ≡ false → (NoRoom ≡ line_answer out a c) × (out ≡ line_written out a c)
-unfolding line_answer line_written
-no_line out a c e = (rw e, rw e)
-
-pub whole_line : {out new : List ℕ} {n : ℕ} (a : Answer) (c : Constraint) → writable out a ≡ true → Wrote out new 0 n (line_of a c) → (Written n ≡ line_answer out a c) × (new ≡ line_written out a c)
-unfolding line_answer line_written
-whole_line a c e w = (rw e (ap Written (rw zero-add at w.place)), rw e (rw zero-add at w.holds))
-
 -- ---- a line from a place on
-
-pub puts_none : {can : Bool} (old : List ℕ) (at : ℕ) (bytes : List ℕ) → can ≡ false → Puts can old old at at bytes
-puts_none old at bytes e = record { place = rw e; holds = rw e }
 
 pub puts_line : {can : Bool} {old new : List ℕ} {at next : ℕ} {bytes : List ℕ} → can ≡ true → Wrote old new at next bytes → Puts can old new at next bytes
 puts_line e w = record { place = rw e w.place; holds = rw e w.holds }
-
-pub puts_placeless : (a : Answer) (old : List ℕ) (at : ℕ) (bytes : List ℕ) → has_place a ≡ false → Puts (room_at old at && has_place a) old old at at bytes
-puts_placeless a old at bytes e = puts_none old at bytes (rw e (and-false (room_at old at)))
 
 -- who knows that there is room has the line written
 pub puts_wrote : {can : Bool} {old new : List ℕ} {at next : ℕ} {bytes : List ℕ} → can ≡ true → at + length bytes ≤ length old → Puts can old new at next bytes → Wrote old new at next bytes
@@ -222,6 +162,10 @@ role_sets_same : (n : ℕ) (a b : List ℕ) → ((i : ℕ) → i < n → get_or 
 unfolding role_sets
 role_sets_same zero a b h = refl
 role_sets_same (suc n) a b h = rw (role_sets_same n a b (λ i l. h i (omega arith)), h n (omega arith))
+
+-- a part of role sets is what is written of them all
+pub part_written : (n : ℕ) (sets : List ℕ) → n + 1 ≤ length sets → role_sets (length (take (n + 1) sets)) (take (n + 1) sets) ≡ role_sets (suc n) sets
+part_written n sets l = rw (length-take-le (n + 1) sets l, add-one n) (role_sets_same (suc n) (take (suc n) sets) sets (λ i h. get_or-take (suc n) sets i 0 h))
 
 part_sets : (S : Sessions) (s f i : ℕ) → i < flow_count → get_or (take flow_count (drop (place s f * flow_count) S.rolesets)) i 0 ≡ get_or (constraint_at S s f).roles i 0
 unfolding constraint_at roleset_at set_place

@@ -1,13 +1,11 @@
 -- What has been written into a lent buffer, and what a caller gets who has an answer written as a line.
 -- Assumes nothing.
-use Rattle.std.specs.Prelude.{ℕ, ◌+◌, ◌≤◌, ◌≡◌, Bool, cond, ◌&&◌, List, ◌++◌, leb, length, drop}
+use Rattle.std.specs.Prelude.{ℕ, ◌+◌, ◌≤◌, ◌≡◌, Bool, cond, ◌&&◌, List, ◌++◌, leb, length, drop, Option, Some, None}
 use Rattle.model.specs.declared.Constraint.{Constraint}
 use Rattle.model.specs.declared.calls.Answer.{Answer}
 use Rattle.model.specs.Limits.{flow_count}
 use Rattle.protocol.specs.Widths.{longest}
 use Rattle.protocol.specs.Lines.{shown_sets, line_of}
-use Rattle.output.specs.declared.Line.{Line}
-use Rattle.output.specs.declared.Line.TheVariants.{Written, NoRoom}
 use Rattle.output.specs.Output.{placed}
 
 -- bytes were written from `at` on, for which there was room, and the next place is behind them
@@ -33,8 +31,8 @@ unfoldable pub writable : List ℕ → Answer → Bool
 writable out a = leb longest (length out) && leb (shown_sets a) flow_count
 
 -- the answer: how long the line is that was written, or that none was
-unfoldable pub line_answer : List ℕ → Answer → Constraint → Line
-line_answer out a c = cond (writable out a) (Written (length (line_of a c))) NoRoom
+unfoldable pub line_answer : List ℕ → Answer → Constraint → Option ℕ
+line_answer out a c = cond (writable out a) (Some (length (line_of a c))) None
 
 -- the buffer: the line at its start, or as it was
 unfoldable pub line_written : List ℕ → Answer → Constraint → List ℕ

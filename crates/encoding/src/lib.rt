@@ -2,7 +2,7 @@
 // is in `answers`; a digit, the room in a buffer and the end of input are in `output`.
 #![tactic(auto)]
 
-ghost use Rattle.std.specs.Prelude.{◌≡◌, ◌&&◌, List, [], ◌∷◌, ◌++◌, ℕ, ◌+◌, ◌*◌, ◌≤◌, leb, length};
+ghost use Rattle.std.specs.Prelude.{◌≡◌, ◌&&◌, List, [], ◌∷◌, ◌++◌, ℕ, suc, ◌+◌, ◌*◌, ◌≤◌, ◌<◌, leb, length};
 ghost use Rattle.model.specs.Limits.{flow_count};
 ghost use Rattle.model.specs.State.{sessions_of};
 ghost use Rattle.protocol.specs.Widths.{field_digits, version_digits, set_digits, longest};
@@ -14,63 +14,67 @@ ghost use Rattle.output.specs.Output.{room_at};
 ghost use Rattle.encoding.specs.Written.{Wrote, Puts, constraint_of, line_answer, line_written};
 
 use model::{Answer, Constraint, Engine, Version};
-pub use output::{Line, write_end};
+pub use output::write_end;
 use protocol::{LONGEST, SET_DIGITS, VERSION_DIGITS};
 
-// The last two digits of v. Every line begins with two, so these are written without a loop.
-fn write_two(v: u64, out: &mut [u8], at: usize) -> usize
-    requires { at + 2 ≤ length out.old }
-    ensures { Wrote out.old out.new at result (hex 2 v) }
-{
-    out[at] = output::high_glyph(v);
-    out[at + 1] = output::glyph(v);
-    at + 2
+// A constraint's parts where they lie.
+// Kept: `model::Constraint` has its role sets in itself, and to copy them for each answer takes 3
+// instructions in 100 more on a list `mixed`.
+#[derive(Clone, Copy)]
+struct Shown<'a> {
+    version: Version,
+    deny: u64,
+    roles: &'a [u64],
 }
 
-// The last n digits of v, written from the last one, which needs no power of 16.
-fn write_hex(v: u64, n: usize, out: &mut [u8], at: usize) -> usize
-    requires { at + n ≤ length out.old }
-    ensures { Wrote out.old out.new at result (hex n v) }
+// How many digits a line begins with, and a field has.
+const FIELD_DIGITS: usize = 2;
+
+// The last N digits of v, written from the last one, which needs no power of 16. Since N is known where
+// it is compiled, no loop is left of it.
+// Kept: a place and the buffer are handed on, here and below. A struct that held both would have to
+// promise in each method that it still lends the same buffer.
+fn write_hex<const N: usize>(v: u64, out: &mut [u8], at: usize) -> usize
+    requires { at + N ≤ length out.old }
+    ensures { Wrote out.old out.new at result (hex N v) }
 {
-    let mut x = v;
-    let mut k = n;
-    while 0 < k {
-        k -= 1;
-        out[at + k] = output::glyph(x);
-        x /= 16;
+    let mut rest = v;
+    for k in (0..N).rev() {
+        out[at + k] = output::glyph(rest);
+        rest /= 16;
     }
-    at + n
+    at + N
 }
 
-// The first n role sets.
-fn write_sets(sets: &[u64], n: usize, out: &mut [u8], at: usize) -> usize
-    requires { (n ≤ length sets.now) × (at + set_digits * n ≤ length out.old) }
-    ensures { Wrote out.old out.new at result (role_sets n sets.now) }
+// A line feed.
+fn write_feed(out: &mut [u8], at: usize) -> usize
+    requires { at < length out.old }
+    ensures { Wrote out.old out.new at result (line_feed ∷ []) }
+{
+    out[at] = b'\n';
+    at + 1
+}
+
+// These role sets, one after the other.
+fn write_sets(sets: &[u64], out: &mut [u8], at: usize) -> usize
+    requires { at + set_digits * length sets.now ≤ length out.old }
+    ensures { Wrote out.old out.new at result (role_sets (length sets.now) sets.now) }
 {
     let mut next = at;
-    let mut g = 0usize;
-    while g < n {
-        next = write_hex(sets[g], SET_DIGITS, out, next);
-        g += 1;
+    for set in sets {
+        next = write_hex::<SET_DIGITS>(*set, out, next);
     }
     next
 }
 
-// A constraint with n role sets.
-fn write_constraint(
-    version: Version,
-    deny: u64,
-    sets: &[u64],
-    n: usize,
-    out: &mut [u8],
-    at: usize,
-) -> usize
-    requires { (n ≤ length sets.now) × (at + (version_digits + set_digits + set_digits * n) ≤ length out.old) }
-    ensures { Wrote out.old out.new at result (hex version_digits version ++ (hex set_digits deny ++ role_sets n sets.now)) }
+// A flow's constraint, with the role sets up to its own.
+fn write_constraint(shown: Shown, flow: usize, out: &mut [u8], at: usize) -> usize
+    requires { (flow < length shown.roles.now) × (at + (version_digits + set_digits + set_digits * suc flow) ≤ length out.old) }
+    ensures { Wrote out.old out.new at result (hex version_digits shown.entry.version ++ (hex set_digits shown.entry.deny ++ role_sets (suc flow) shown.entry.roles.now)) }
 {
-    let next = write_hex(version as u64, VERSION_DIGITS, out, at);
-    let next = write_hex(deny, SET_DIGITS, out, next);
-    write_sets(sets, n, out, next)
+    let next = write_hex::<VERSION_DIGITS>(shown.version as u64, out, at);
+    let next = write_hex::<SET_DIGITS>(shown.deny, out, next);
+    write_sets(&shown.roles[..flow + 1], out, next)
 }
 
 // A new flow's number, reach and version.
@@ -78,58 +82,39 @@ fn write_flow(number: usize, reach: u32, version: Version, out: &mut [u8], at: u
     requires { at + (field_digits + field_digits + version_digits) ≤ length out.old }
     ensures { Wrote out.old out.new at result (hex field_digits number ++ (hex field_digits reach ++ hex version_digits version)) }
 {
-    let next = write_two(number as u64, out, at);
-    let next = write_two(reach as u64, out, next);
-    write_hex(version as u64, VERSION_DIGITS, out, next)
+    let next = write_hex::<FIELD_DIGITS>(number as u64, out, at);
+    let next = write_hex::<FIELD_DIGITS>(reach as u64, out, next);
+    write_hex::<VERSION_DIGITS>(version as u64, out, next)
 }
 
-// What follows the first two digits of a line; the constraint's parts are those of the flow that the
-// answer shows.
-fn write_values(
-    a: Answer,
-    version: Version,
-    deny: u64,
-    sets: &[u64],
-    out: &mut [u8],
-    at: usize,
-) -> usize
-    requires a_bound { (shown_sets a ≤ flow_count) × (flow_count ≤ length sets.now) }
+// What follows the first two digits of a line; the constraint is that of the flow that the answer shows.
+fn write_values(a: Answer, shown: Shown, out: &mut [u8], at: usize) -> usize
+    requires a_bound { (shown_sets a ≤ flow_count) × (flow_count ≤ length shown.roles.now) }
     requires flow_count_in_bounds { at + (version_digits + set_digits * (1 + flow_count)) ≤ length out.old }
-    ensures { Wrote out.old out.new at result (values a (constraint_of version deny sets.now)) }
+    ensures { Wrote out.old out.new at result (values a (constraint_of shown.entry.version shown.entry.deny shown.entry.roles.now)) }
 {
     match a {
-        Answer::Version(v) => write_hex(v as u64, VERSION_DIGITS, out, at),
-        Answer::Roles(m) => write_hex(m, SET_DIGITS, out, at),
+        Answer::Version(v) => write_hex::<VERSION_DIGITS>(v as u64, out, at),
+        Answer::Roles(m) => write_hex::<SET_DIGITS>(m, out, at),
         Answer::Flow {
             number,
             reach,
             version,
         } => write_flow(number, reach, version, out, at),
-        Answer::Granted => at,
-        Answer::Constraint { session: _, flow } => {
-            write_constraint(version, deny, sets, flow + 1, out, at)
-        }
-        Answer::Refused(_) => at,
+        Answer::Constraint { flow, .. } => write_constraint(shown, flow, out, at),
+        Answer::Granted | Answer::Refused(_) => at,
     }
 }
 
 // The line of an answer, from a place on that leaves room for every line.
-fn write_line(
-    a: Answer,
-    version: Version,
-    deny: u64,
-    sets: &[u64],
-    out: &mut [u8],
-    at: usize,
-) -> usize
-    requires a_bound { (shown_sets a ≤ flow_count) × (flow_count ≤ length sets.now) }
+fn write_line(a: Answer, shown: Shown, out: &mut [u8], at: usize) -> usize
+    requires a_bound { (shown_sets a ≤ flow_count) × (flow_count ≤ length shown.roles.now) }
     requires longest_in_bounds { at + longest ≤ length out.old }
-    ensures { Wrote out.old out.new at result (line_of a (constraint_of version deny sets.now)) }
+    ensures { Wrote out.old out.new at result (line_of a (constraint_of shown.entry.version shown.entry.deny shown.entry.roles.now)) }
 {
-    let next = write_two(answers::returned(a), out, at);
-    let end = write_values(a, version, deny, sets, out, next);
-    out[end] = 10;
-    end + 1
+    let next = write_hex::<FIELD_DIGITS>(answers::returned(a), out, at);
+    let next = write_values(a, shown, out, next);
+    write_feed(out, next)
 }
 
 // A number and a line feed, which is the whole answer to a read, from a place on.
@@ -139,72 +124,68 @@ pub fn write_number(n: u64, out: &mut [u8], at: usize) -> usize
     if !output::has_room(out, at) {
         return at;
     }
-    let end = write_two(n, out, at);
-    out[end] = 10;
-    end + 1
+    let next = write_hex::<FIELD_DIGITS>(n, out, at);
+    write_feed(out, next)
 }
 
 // A number in sixteen digits, and a line feed.
 pub fn number_line(n: u64) -> [u8; SET_DIGITS + 1]
     ensures { result ≡ hex set_digits n ++ (line_feed ∷ []) }
 {
-    let mut out = [0u8; SET_DIGITS + 1];
-    let end = write_hex(n, SET_DIGITS, &mut out, 0);
-    out[end] = 10;
+    let mut out = [0; SET_DIGITS + 1];
+    let next = write_hex::<SET_DIGITS>(n, &mut out, 0);
+    write_feed(&mut out, next);
     out
 }
 
 // The line of an answer, from a place on; a constraint that it shows is taken from the arrays.
-pub fn write_answer<'a>(
+pub fn write_answer(
     a: Answer,
-    versions: &'a [Version; Engine::PLACES],
-    denies: &'a [u64; Engine::PLACES],
-    rolesets: &'a [u64; Engine::ROLE_SETS],
+    versions: &[Version; Engine::PLACES],
+    denies: &[u64; Engine::PLACES],
+    rolesets: &[u64; Engine::ROLE_SETS],
     out: &mut [u8],
     at: usize,
 ) -> usize
     ensures { (opened : ℕ) (counts roots reaches : List ℕ) → Puts (room_at out.old at && has_place a) out.old out.new at result (line_of a (shown_in (sessions_of opened counts roots reaches versions.now denies.now rolesets.now) a)) }
 {
-    if !output::has_room(out, at) {
-        return at;
-    }
-    if !answers::has_place(a) {
+    if !output::has_room(out, at) || !answers::has_place(a) {
         return at;
     }
     let k = answers::shown_place(a);
     let from = k * Engine::FLOWS;
-    let all = &rolesets[..];
-    write_line(
-        a,
-        versions[k],
-        denies[k],
-        &all[from..from + Engine::FLOWS],
-        out,
-        at,
-    )
+    let shown = Shown {
+        version: versions[k],
+        deny: denies[k],
+        roles: &rolesets[from..from + Engine::FLOWS],
+    };
+    write_line(a, shown, out, at)
 }
 
 // Whether an answer shows no more role sets than a constraint has.
+#[tactic(auto, unfolding(protocol::specs::Lines::shown_sets))]
 fn is_writable(a: Answer) -> bool
     ensures { result ≡ leb (shown_sets a) flow_count }
 {
-    if let Answer::Constraint { session: _, flow } = a {
-        return flow < Engine::FLOWS;
+    match a {
+        Answer::Constraint { flow, .. } => flow < Engine::FLOWS,
+        _ => true,
     }
-    true
 }
 
 // The line of an answer at the start of `out`, where there is room for every line and the answer
-// shows no more role sets than a constraint has; else `out` is left as it was.
-pub fn answer_line(a: Answer, c: Constraint, out: &mut [u8]) -> Line
+// shows no more role sets than a constraint has: how long it is. Else `out` is left as it was.
+#[tactic(auto, unfolding(crate::specs::Written::writable, crate::specs::Written::line_answer, crate::specs::Written::line_written))]
+pub fn answer_line(a: Answer, c: Constraint, out: &mut [u8]) -> Option<usize>
     ensures { (result ≡ line_answer out.old a c) × (out.new ≡ line_written out.old a c) }
 {
-    if out.len() < LONGEST {
-        return Line::NoRoom;
+    if out.len() < LONGEST || !is_writable(a) {
+        return None;
     }
-    if !is_writable(a) {
-        return Line::NoRoom;
-    }
-    let sets = c.roles;
-    Line::Written(write_line(a, c.version, c.deny, &sets, out, 0))
+    let shown = Shown {
+        version: c.version,
+        deny: c.deny,
+        roles: &c.roles,
+    };
+    Some(write_line(a, shown, out, 0))
 }

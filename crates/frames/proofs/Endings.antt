@@ -22,8 +22,7 @@ use Rattle.protocol.specs.Digits.{glyph, hex}
 use Rattle.protocol.specs.Lines.{call_of, values, line_of, line_feed}
 use Rattle.protocol.specs.Run.{last_call, reply, replies, run, Fed, wrote, fed, feed_at, finish, shown_in}
 use Rattle.protocol.proofs.Laws.{more, run_more, more_end, more_line, feed_at_le, feed_there, no_feed_of, no_feed_before, no_more, one_line, fed_run, fed_left, fed_fits}
-use Rattle.output.specs.declared.Line.{Line}
-use Rattle.output.specs.declared.Line.TheVariants.{NoRoom}
+use Rattle.std.specs.Prelude.{Option, None}
 use Rattle.frames.specs.declared.lent.Fed.{Fed as Given}
 use Rattle.output.specs.Output.{ending, end_answer, end_written}
 use Rattle.frames.specs.Stream.{Feeds, takes_whole, ran_output, Ran}
@@ -124,7 +123,7 @@ module _ (input old new : List ℕ) (e : Engine) (f : Given) (g : Feeds input ol
   left_here = (fed_left (length old) fresh input).1 ∙ ap (λ (n : ℕ). drop n input) (sym g.consumed)
 
   -- not every whole line was taken
-  pub ran_short : (at : ℕ) → at ≡ f.consumed + feed_at (drop f.consumed input) → at < length input → Ran input old new NoRoom
+  pub ran_short : (at : ℕ) → at ≡ f.consumed + feed_at (drop f.consumed input) → at < length input → Ran input old new None
   unfolding takes_whole ran_output
   ran_short at p h = record { answer = rw some; output = rw some g.output; begins = begins_with input (length old); roomy = room_enough input (length old) }
     where
@@ -132,7 +131,7 @@ module _ (input old new : List ℕ) (e : Engine) (f : Given) (g : Feeds input ol
       some = ne_eqb (feed_at (fed_in input old).left) (length (fed_in input old).left) (λ q. omega (arith, p, q, left_long, ap feed_at left_here))
 
   -- all of them were
-  pub ran_end : (at : ℕ) (out : List ℕ) (r : Line) → at ≡ f.consumed + feed_at (drop f.consumed input) → length input ≤ at
+  pub ran_end : (at : ℕ) (out : List ℕ) (r : Option ℕ) → at ≡ f.consumed + feed_at (drop f.consumed input) → length input ≤ at
       → r ≡ end_answer new f.written (ending (length input - f.consumed)) → out ≡ end_written new f.written (ending (length input - f.consumed)) → Ran input old out r
   unfolding takes_whole ran_output end_answer end_written
   ran_end at out r p h a o =

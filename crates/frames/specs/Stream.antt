@@ -1,6 +1,6 @@
 -- What a caller of the stream's functions gets: by the machine `fed`, and a whole run in one buffer.
 -- Assumes nothing.
-use Rattle.std.specs.Prelude.{ℕ, ◌+◌, ◌-◌, ◌≤◌, ◌<◌, ◌≡◌, Bool, true, cond, ◌&&◌, List, ◌++◌, eqb, leb, length, drop}
+use Rattle.std.specs.Prelude.{ℕ, ◌+◌, ◌-◌, ◌≤◌, ◌<◌, ◌≡◌, Bool, true, cond, ◌&&◌, List, ◌++◌, eqb, leb, length, drop, Option, Some, None}
 use Rattle.model.specs.declared.Engine.{Engine}
 use Rattle.model.specs.State.{fresh}
 use Rattle.protocol.specs.Widths.{longest}
@@ -8,8 +8,6 @@ use Rattle.model.specs.Calls.{after as Calls·after}
 use Rattle.protocol.specs.Lines.{call_of}
 use Rattle.protocol.specs.Run.{run, reply, Fed, fed, feed_at}
 use Rattle.frames.specs.declared.lent.Fed.{Fed as Given}
-use Rattle.output.specs.declared.Line.{Line}
-use Rattle.output.specs.declared.Line.TheVariants.{Written, NoRoom}
 
 -- one frame, a line without its line feed: where the longest answer has room, its answer line stands at the start of the buffer, the number given back is the
 -- line's length, and the engine is the one after its call; else nothing is done
@@ -38,8 +36,8 @@ unfoldable pub ran_output : List ℕ → ℕ → List ℕ
 ran_output input room = cond (takes_whole input room) (run input) (fed room fresh input).written
 
 -- the answer is how long the run's output is, or that there is no room; the buffer has what was written, which the run begins with, and is else as it was
-pub record Ran (input old new : List ℕ) (r : Line) : Type 0 where
-  pub answer : r ≡ cond (takes_whole input (length old)) (Written (length (run input))) NoRoom
+pub record Ran (input old new : List ℕ) (r : Option ℕ) : Type 0 where
+  pub answer : r ≡ cond (takes_whole input (length old)) (Some (length (run input))) None
   pub output : new ≡ ran_output input (length old) ++ drop (length (ran_output input (length old))) old
   pub begins : (rest : List ℕ) × (run input ≡ ran_output input (length old) ++ rest)
   -- there is room where the longest answer has room behind the run's output

@@ -10,7 +10,6 @@ ghost use Rattle.encoding.specs.Written.{Wrote};
 ghost use Rattle.frames.specs.Stream.{Answers, Feeds};
 
 use super::LONGEST;
-use encoding::Line;
 use model::{Call, Engine, Version};
 
 // How many bytes of the input were taken and of the output written.
@@ -160,8 +159,9 @@ pub fn answer_frame(
     fed.written
 }
 
-// At the end of input, where this many bytes are left of a line: its answer, at the start of `out`.
-pub fn finish(len: usize, out: &mut [u8]) -> Line
+// At the end of input, where this many bytes are left of a line: its answer, at the start of `out`, and
+// how long it is; where there is no room, None.
+pub fn finish(len: usize, out: &mut [u8]) -> Option<usize>
     ensures { (result ≡ end_answer out.old 0 (ending len)) × (out.new ≡ end_written out.old 0 (ending len)) }
 {
     encoding::write_end(len, out, 0)

@@ -8,7 +8,7 @@ pub mod lent;
 mod whole;
 
 pub use decoding::{keep, read_call};
-pub use encoding::{Line, answer_line};
+pub use encoding::answer_line;
 pub use kept::{answer_frame, feed};
 pub use lent::{Fed, finish};
 pub use protocol::{KEPT, LONGEST, SET_DIGITS, VERSION_DIGITS};

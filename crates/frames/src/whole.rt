@@ -2,18 +2,17 @@
 ghost use Rattle.frames.specs.Stream.{Ran};
 
 use super::kept;
-use encoding::Line;
 
-// The run of the program on this input, at the start of `out`. Where there is no room, `out` begins
-// with the answers up to there.
-pub fn run(input: &[u8], out: &mut [u8]) -> Line
+// The run of the program on this input, at the start of `out`, and how long it is. Where there is no
+// room, None, and `out` begins with the answers up to there.
+pub fn run(input: &[u8], out: &mut [u8]) -> Option<usize>
     ensures { Ran input.now out.old out.new result }
 {
     let mut engine = values::fresh();
     let fed = kept::feed(&mut engine, input, out);
     let from = fed.consumed;
     if decoding::find_feed(input, from) < input.len() {
-        return Line::NoRoom;
+        return None;
     }
     encoding::write_end(input.len() - from, out, fed.written)
 }

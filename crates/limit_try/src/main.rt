@@ -8,7 +8,6 @@ use engine::{
     Answer, Changed, Constraint, Directory, Engine, Product, Sessions, Shown, Verdict, Version,
     add_flow, assign, forward, fresh, mandate, open_session, permit, read, revoke, show, withdraw,
 };
-use output::Line;
 use protocol::LONGEST;
 use std::io::Print;
 use tables::Tables;
@@ -223,8 +222,7 @@ fn shown(rt: HostRuntime, x: Shown) {
 
 fn line(rt: HostRuntime, a: Answer, c: Constraint) {
     let mut out = [0u8; LONGEST];
-    let written = encoding::answer_line(a, c, &mut out);
-    if let Line::Written(n) = written {
+    if let Some(n) = encoding::answer_line(a, c, &mut out) {
         write_first(rt, &out, n);
     }
 }

@@ -4,7 +4,6 @@
 // none of its contracts.
 #![tactic(auto)]
 
-use frames::Line;
 use model::{Engine, Version};
 use taking::{BUFFER, Held};
 
@@ -48,8 +47,7 @@ fn end(rt: HostRuntime, held: Held, output: &mut [u8; BUFFER]) {
     if !held.is_open {
         return;
     }
-    let line = frames::finish(held.filled, output);
-    if let Line::Written(n) = line {
+    if let Some(n) = frames::finish(held.filled, output) {
         show(rt, output, n, held.lines);
     }
 }

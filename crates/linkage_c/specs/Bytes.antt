@@ -1,10 +1,8 @@
 -- What a caller in C is given back of bytes.
 -- Assumes nothing.
-use Rattle.std.specs.Prelude.{ℕ}
-use Rattle.output.specs.declared.Line.{Line}
-use Rattle.output.specs.declared.Line.TheVariants.{Written, NoRoom}
+use Rattle.std.specs.Prelude.{ℕ, Option, Some, None}
 
 -- how long a line is that was written; 0 where none was
-unfoldable pub length_of : Line → ℕ
-length_of (Written n) = n
-length_of NoRoom = 0
+unfoldable pub length_of : Option ℕ → ℕ
+length_of (Some n) = n
+length_of None = 0

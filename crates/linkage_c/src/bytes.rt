@@ -7,7 +7,6 @@ ghost use Rattle.output.specs.Output.{ending, end_answer, end_written};
 ghost use Rattle.frames.specs.Stream.{Answers, Feeds};
 ghost use Rattle.linkage_c.specs.Bytes.{length_of};
 
-use frames::Line;
 use model::{Engine, Version};
 
 // The engine is made fresh: empty tables, no open session, every version 0.
@@ -117,8 +116,5 @@ pub extern "C" fn linkage_keep(buffer: &mut [u8], from: usize, to: usize) -> usi
 pub extern "C" fn linkage_finish(left: usize, out: &mut [u8]) -> usize
     ensures { (result ≡ length_of (end_answer out.old 0 (ending left))) × (out.new ≡ end_written out.old 0 (ending left)) }
 {
-    match frames::finish(left, out) {
-        Line::Written(n) => n,
-        Line::NoRoom => 0,
-    }
+    frames::finish(left, out).unwrap_or(0)
 }

@@ -5,7 +5,7 @@
 
 ghost use Rattle.io.specs.Counts.{IsPrefixLen};
 
-use frames::{LONGEST, Line};
+use frames::LONGEST;
 use model::{Engine, Version};
 use std::env::{Env, FillError};
 use std::fs::File;
@@ -62,8 +62,7 @@ fn is_at_end(len: usize, filled: usize, taken: usize) -> bool {
 // Writes the answer to a last line that has no line feed, of which this many bytes are left.
 fn end(rt: HostRuntime, len: usize) {
     let mut output = [0u8; ROOM];
-    let line = frames::finish(len, &mut output);
-    if let Line::Written(n) = line {
+    if let Some(n) = frames::finish(len, &mut output) {
         show(rt, &output, n);
     }
 }

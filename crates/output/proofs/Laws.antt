@@ -1,83 +1,15 @@
--- The laws of digits, room and the end of input that the functions' proofs cite. Nothing here has to be read to understand a contract.
+-- The law of room that the proofs of `encoding` cite. Nothing here has to be read to understand a contract.
 -- Assumes nothing.
-use Prim.Native.Nat.{ℕ, zero, suc, ◌+◌, ◌-◌, ◌*◌, ◌/◌, ◌%◌, ◌≤◌, ◌<◌}
-use mathlib.Core.Path.{◌≡◌, refl, sym, ◌∙◌}
-use mathlib.Core.Bool.{true, false, cond}
-use mathlib.Core.List.{List, [], ◌∷◌, append_assoc}
-use native.Mathlib.Numerals.{add-one}
-use native.Mathlib.Decide.{dec_lt}
-use native.Mathlib.Omega.{arith}
-use lib.Dec.{leb, ltb}
-use lib.ListN.{length, take, set, take-append-drop}
-use lib.Seq.{sets, sets-eq}
-use borrow.Author.Tests.{le-leb, lt-leb, lt-ltb, le-ltb, leb-true}
+use Prim.Native.Nat.{ℕ, ◌+◌, ◌≤◌}
+use mathlib.Core.Path.{◌≡◌}
+use mathlib.Core.Bool.{true}
+use mathlib.Core.List.{List}
+use lib.ListN.{length}
+use borrow.Author.Tests.{leb-true}
 use Rattle.protocol.specs.Widths.{longest}
-use Rattle.protocol.specs.Digits.{glyph}
-use Rattle.protocol.specs.Lines.{line_feed}
-use Rattle.output.specs.declared.Line.{Line}
-use Rattle.output.specs.declared.Line.TheVariants.{Written, NoRoom}
-use Rattle.output.specs.Output.{placed, room_at, ending, end_answer, end_written}
+use Rattle.output.specs.Output.{room_at}
 
--- bytes that are stored one after the other
-pub stored : (bytes old : List ℕ) (at : ℕ) → at + length bytes ≤ length old → sets old at bytes ≡ placed old at bytes
-stored bytes old at l = sets-eq bytes old at l ∙ append_assoc (take at old) bytes _
-
--- the code's digit
-pub glyph_sum : (v d : ℕ) → d ≡ v % 16 → 48 + d + (d + 6) / 16 * 39 ≡ glyph (v % 16)
-unfolding glyph
-glyph_sum v d e = rw (← e) (go (dec_lt d 10))
-  where
-    go : Dec (d < 10) → 48 + d + (d + 6) / 16 * 39 ≡ cond (ltb d 10) (48 + d) (87 + d)
-    go (yes l) = let q : (d + 6) / 16 ≡ 0 = omega arith in rw (lt-ltb d 10 l, q) (omega arith)
-    go (no l) = let q : (d + 6) / 16 ≡ 1 = omega (arith, l) in rw (le-ltb d 10 (omega (arith, l)), q) (omega arith)
-
--- ---- room for every line
-
-pub room_past : (out : List ℕ) (at : ℕ) → length out < at → false ≡ room_at out at
-unfolding room_at
-room_past out at l = sym (lt-leb (at + longest) (length out) (omega arith))
-
-pub room_here : (out : List ℕ) (at : ℕ) → at ≤ length out → leb longest (length out - at) ≡ room_at out at
-unfolding room_at
-room_here out at l = go (dec_lt (length out) (at + longest))
-  where
-    go : Dec (length out < at + longest) → leb longest (length out - at) ≡ leb (at + longest) (length out)
-    go (yes h) = lt-leb longest (length out - at) (omega arith) ∙ sym (lt-leb (at + longest) (length out) h)
-    go (no h) = le-leb longest (length out - at) (omega (arith, h)) ∙ sym (le-leb (at + longest) (length out) (omega (arith, h)))
-
+-- every line has room
 pub room_there : (out : List ℕ) (at : ℕ) → room_at out at ≡ true → at + longest ≤ length out
 unfolding room_at
 room_there out at e = leb-true (at + longest) (length out) e
-
--- ---- the end of input
-
-abbrev Ended : List ℕ → List ℕ → ℕ → List ℕ → Line → Type 0
-Ended old new at bytes r = (r ≡ end_answer old at bytes) × (new ≡ end_written old at bytes)
-
--- the place is past the buffer's end
-pub ended_past : (old : List ℕ) (len at : ℕ) → length old < at → Ended old old at (ending len) NoRoom
-unfolding end_answer end_written
-ended_past old len at l = rw (lt-leb (at + length (ending len)) (length old) (omega arith)) (refl, refl)
-
--- no line has begun
-pub ended_none : (old : List ℕ) (len at : ℕ) → len ≡ 0 → at ≤ length old → Ended old old at (ending len) (Written at)
-unfolding ending end_answer end_written
-ended_none old len at q l = let z : at + 0 ≡ at = omega arith in rw (q, z, le-leb at (length old) l) (refl, sym (take-append-drop at old))
-
-three : (len : ℕ) → (len ≡ 0 → ⊥) → ending len ≡ 48 ∷ 49 ∷ line_feed ∷ []
-unfolding ending
-three zero h = absurd (h refl)
-three (suc n) h = refl
-
--- too little room
-pub ended_short : (old : List ℕ) (len at : ℕ) → (len ≡ 0 → ⊥) → at ≤ length old → length old - at < 3 → Ended old old at (ending len) NoRoom
-unfolding end_answer end_written
-ended_short old len at q l h = rw (three len q, lt-leb (at + 3) (length old) (omega arith)) (refl, refl)
-
--- the number is stored
-pub ended_line : (old : List ℕ) (len at : ℕ) → (len ≡ 0 → ⊥) → at ≤ length old → 3 ≤ length old - at → Ended old (set (set (set old at 48) (at + 1) 49) (at + 2) 10) at (ending len) (Written (at + 3))
-unfolding end_answer end_written
-ended_line old len at q l h = rw (three len q, le-leb (at + 3) (length old) (omega arith)) (refl, rw (add-one at, add_two at) (stored (48 ∷ 49 ∷ line_feed ∷ []) old at (omega arith)))
-  where
-    add_two : (n : ℕ) → n + 2 ≡ suc (suc n)
-    add_two n = omega arith

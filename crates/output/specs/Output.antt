@@ -1,10 +1,8 @@
 -- A lent buffer that answers go into: what it holds after a write, where a line has room, and what the end of input writes.
 -- Assumes nothing.
-use Rattle.std.specs.Prelude.{ℕ, zero, suc, ◌+◌, Bool, cond, List, [], ◌∷◌, ◌++◌, leb, length, take, drop}
+use Rattle.std.specs.Prelude.{ℕ, zero, suc, ◌+◌, Bool, cond, List, [], ◌∷◌, ◌++◌, leb, length, take, drop, Option, Some, None}
 use Rattle.protocol.specs.Widths.{longest}
 use Rattle.protocol.specs.Lines.{line_feed}
-use Rattle.output.specs.declared.Line.{Line}
-use Rattle.output.specs.declared.Line.TheVariants.{Written, NoRoom}
 
 -- the old list with these bytes from `at` on
 abbrev pub placed : List ℕ → ℕ → List ℕ → List ℕ
@@ -25,8 +23,8 @@ ending (suc n) = 0x30 ∷ 0x31 ∷ line_feed ∷ []
 abbrev pub fits : List ℕ → ℕ → List ℕ → Bool
 fits old at bytes = leb (at + length bytes) (length old)
 
-unfoldable pub end_answer : List ℕ → ℕ → List ℕ → Line
-end_answer old at bytes = cond (fits old at bytes) (Written (at + length bytes)) NoRoom
+unfoldable pub end_answer : List ℕ → ℕ → List ℕ → Option ℕ
+end_answer old at bytes = cond (fits old at bytes) (Some (at + length bytes)) None
 
 unfoldable pub end_written : List ℕ → ℕ → List ℕ → List ℕ
 end_written old at bytes = cond (fits old at bytes) (placed old at bytes) old

@@ -8,14 +8,10 @@ ghost use Rattle.output.specs.Output.{room_at, ending, end_answer, end_written};
 
 use protocol::LONGEST;
 
-// What became of a line: the place behind it, or that it was not written.
-#[derive(Clone, Copy)]
-pub enum Line {
-    Written(usize),
-    NoRoom,
-}
-
 // The digit of v's last four bits.
+// Kept: this sum has no branch. With one, `reads` takes a tenth more time, and with a table more than
+// with the sum too (docs/PERFORMANCE.md).
+#[tactic(auto, unfolding(protocol::specs::Digits::glyph))]
 pub fn glyph(v: u64) -> u8
     ensures { result ≡ glyph (v % 16) }
 {
@@ -23,39 +19,34 @@ pub fn glyph(v: u64) -> u8
     (48 + d + (d + 6) / 16 * 39) as u8
 }
 
-// The digit before it.
-pub fn high_glyph(v: u64) -> u8
-    ensures { result ≡ glyph (v / 16 % 16) }
-{
-    glyph(v / 16)
-}
-
 // Whether every line has room from a place on.
+#[tactic(auto, unfolding(crate::specs::Output::room_at))]
 pub fn has_room(out: &[u8], at: usize) -> bool
     ensures { result ≡ room_at out.now at }
 {
-    if out.len() < at {
-        return false;
-    }
-    LONGEST <= out.len() - at
+    at <= out.len() && LONGEST <= out.len() - at
 }
 
-// The answer to a line that has no line feed, of which this many bytes are there, from a place on: its
-// number, where a line has begun.
-pub fn write_end(len: usize, out: &mut [u8], at: usize) -> Line
+// What a line so far of this many bytes still answers at the end of input: nothing, or the number of a
+// frame that can't be read.
+#[tactic(auto, unfolding(crate::specs::Output::ending))]
+fn ending(len: usize) -> &'static [u8]
+    ensures { result.now ≡ ending len }
+{
+    if len == 0 { b"" } else { b"01\n" }
+}
+
+// The answer to a line that has no line feed, of which this many bytes are there, from a place on. What
+// comes back is the place behind it; where there is no room, None.
+#[tactic(auto, unfolding(crate::specs::Output::end_answer, crate::specs::Output::end_written))]
+pub fn write_end(len: usize, out: &mut [u8], at: usize) -> Option<usize>
     ensures { (result ≡ end_answer out.old at (ending len)) × (out.new ≡ end_written out.old at (ending len)) }
 {
-    if out.len() < at {
-        return Line::NoRoom;
+    let line = ending(len);
+    let end = at.checked_add(line.len())?;
+    if out.len() < end {
+        return None;
     }
-    if len == 0 {
-        return Line::Written(at);
-    }
-    if out.len() - at < 3 {
-        return Line::NoRoom;
-    }
-    out[at] = 48;
-    out[at + 1] = 49;
-    out[at + 2] = 10;
-    Line::Written(at + 3)
+    out[at..end].copy_from_slice(line);
+    Some(end)
 }

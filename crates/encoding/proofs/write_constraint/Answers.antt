@@ -1,21 +1,20 @@
 -- Three parts, one after the other.
 use native.Mathlib.Omega.{arith}
-use Rattle.encoding.proofs.Writing.{wrote_both, wrote_place, wrote_length}
+use lib.ListN.{length-take}
+use Rattle.encoding.proofs.Writing.{wrote_both, wrote_hex, wrote_same, part_written}
 use Rattle.encoding.proofs.write_constraint.Goals as goal
 
 pub write_hex-next-requires-2 : goal.write_hex-next-requires-2
 write_hex-next-requires-2 c =
     let first = c.write_hex-next.ensures in
-    omega (arith, wrote_place _ _ first, wrote_length first)
+    omega (arith, wrote_hex _ _ first)
 
 pub write_sets-requires : goal.write_sets-requires
 write_sets-requires c =
     let first = c.write_hex-next.ensures in
     let second = c.write_hex-next-2.ensures in
-    (c.requires.0, omega (arith, wrote_place _ _ first, wrote_length first, wrote_place _ _ second, wrote_length second))
+    simp length-take (omega (arith, c.requires.1, wrote_hex _ _ first, wrote_hex _ _ second))
 
 pub returns : goal.returns
-returns c = wrote_both c.write_hex-next.ensures (wrote_both c.write_hex-next-2.ensures c.write_sets.ensures)
-
-pub shape_of-out : goal.shape_of-out
-shape_of-out c = wrote_length (returns c)
+returns c =
+    wrote_both c.write_hex-next.ensures (wrote_both c.write_hex-next-2.ensures (wrote_same (part_written _ _ (omega (arith, c.requires.0))) c.write_sets.ensures))

@@ -1,17 +1,14 @@
 -- Each arm writes what the definition's case says.
-use native.Mathlib.Numerals.{add-one}
+use mathlib.Core.Logic.{inl, inr}
 use native.Mathlib.Omega.{arith}
 use Rattle.protocol.specs.Lines.{values}
 use Rattle.encoding.proofs.Writing.{wrote_nothing, shown_below}
 use Rattle.encoding.proofs.write_values.Goals as goal
 
-pub overflow_add-flow : goal.overflow_add-flow
-overflow_add-flow c = omega (arith, shown_below _ _ _ c.in-Constraint.is c.requires.a_bound.0)
-
 pub write_constraint-requires : goal.write_constraint-requires
 write_constraint-requires c =
     let l = shown_below _ _ _ c.in-Constraint.is c.requires.a_bound.0 in
-    (omega arith, omega arith)
+    (omega (arith, l, c.requires.a_bound.1), omega arith)
 
 -- a version
 pub returns-in-Version : goal.returns-in-Version
@@ -28,17 +25,13 @@ pub returns-in-Flow : goal.returns-in-Flow
 unfolding values
 returns-in-Flow c = rw c.in-Flow.is c.write_flow.ensures
 
--- a read that was granted
-pub returns-in-Granted : goal.returns-in-Granted
-unfolding values
-returns-in-Granted c = rw c.in-Granted.is (wrote_nothing _ _ (omega arith))
-
 -- a constraint
 pub returns-in-Constraint : goal.returns-in-Constraint
 unfolding values
-returns-in-Constraint c = rw c.in-Constraint.is (rw add-one at c.write_constraint.ensures)
+returns-in-Constraint c = rw c.in-Constraint.is c.write_constraint.ensures
 
--- a refusal
-pub returns-in-Refused : goal.returns-in-Refused
+-- nothing
+pub returns-in-Granted : goal.returns-in-Granted
 unfolding values
-returns-in-Refused c = rw c.in-Refused.is (wrote_nothing _ _ (omega arith))
+returns-in-Granted c =
+    elim c.in-Granted.is [ inl e ↦ rw e (wrote_nothing _ _ (omega arith)) | inr refused ↦ rw refused.1 (wrote_nothing _ _ (omega arith)) ]
