@@ -2,7 +2,7 @@
 -- Assumes nothing.
 use Prim.Native.Nat.{ℕ, zero, suc, ◌+◌, ◌-◌, ◌*◌, ◌/◌, ◌^◌, ◌≤◌, ◌<◌}
 use mathlib.Core.Path.{◌≡◌, refl, ap, sym, ◌∙◌}
-use mathlib.Core.Bool.{Bool, true, false, cond, ◌&&◌, and-true, and-false, and_assoc}
+use mathlib.Core.Bool.{Bool, true, false, cond, ◌&&◌, and-true, and-false, and_assoc, true≢false}
 use mathlib.Core.List.{List, [], ◌∷◌, ◌++◌}
 use mathlib.Core.Logic.{◌⊎◌, inl, inr, ⊎_elim}
 use native.Mathlib.Nat.{add-zero, add-suc, add_assoc, not-suc-le-zero}
@@ -15,7 +15,7 @@ use lib.ListN.{length, get_or, take, drop, set, replicate, length-drop, length-a
 use lib.Pow.{pow-add, pow_mono}
 use lib.Seq.{take_all, take-suc-set, get_or-drop, get_or_at}
 use types.Run.{OneOf}
-use borrow.Author.Tests.{lt-ltb, le-ltb, eq-eqb, ne_eqb, le-leb, lt-leb, ltb-true, leb-true, eqb-true}
+use borrow.Author.Tests.{lt-ltb, le-ltb, eq-eqb, ne_eqb, le-leb, lt-leb, ltb-true, ltb-false, leb-true, eqb-true}
 use Rattle.sets.proofs.Laws.{and_both}
 use Rattle.model.specs.declared.calls.Call.{Call}
 use Rattle.model.specs.declared.calls.Call.TheVariants.{Unreadable}
@@ -26,7 +26,7 @@ use Rattle.std.specs.Prelude.{Option, Some, None}
 use Rattle.kinds.specs.declared.Fields.{Fields}
 use Rattle.decoding.specs.declared.read.Rest.{Rest}
 use Rattle.decoding.specs.declared.read.Frame.{Frame}
-use Rattle.decoding.specs.Fields.{pair_at, pairs_right, pairs_number, pairs_at, pairs_read, fields_read, ended_by, fields_of, one_field, two_fields, four_fields, set_pairs, chosen_set, addition, fields_by}
+use Rattle.decoding.specs.Fields.{pair_at, pair_read, pairs_right, pairs_number, pairs_at, pairs_read, fields_read, ended_by, fields_of, one_field, two_fields, four_fields, set_pairs, chosen_set, addition, fields_by}
 use Rattle.decoding.specs.Frames.{is_frame, frame_if, call_by, frame_by}
 
 -- a part of a list that runs to its end
@@ -35,21 +35,6 @@ to_end n s h = take_all (length s - n) (drop n s) (omega (arith, length-drop n s
 
 pub to_end_long : (n m : ℕ) (s : List ℕ) → n + m ≤ length s → m ≤ length (take (length s - n) (drop n s))
 to_end_long n m s h = rw (to_end n s (omega arith)) (omega (arith, length-drop n s))
-
--- ---- several numbers by one test
-
--- numbers joined bit by bit are at least each of them
-or_ge : (a b : ℕ) → (a ≤ bit_or a b) × (b ≤ bit_or a b)
-or_ge a b = (omega (arith, or_add_and a b, and_le_r a b), omega (arith, or_add_and a b, and_le_l a b))
-
--- so they are all below 256 where the joined number is
-both_below : (a b : ℕ) → (ltb a 256 && ltb b 256) ≡ ltb (bit_or a b) 256
-both_below a b = go (dec_lt a 256) (dec_lt b 256)
-  where
-    go : Dec (a < 256) → Dec (b < 256) → (ltb a 256 && ltb b 256) ≡ ltb (bit_or a b) 256
-    go (yes p) (yes q) = rw (lt-ltb a 256 p, lt-ltb b 256 q, lt-ltb (bit_or a b) 256 (or_lt 8 a b p q))
-    go (yes p) (no q) = rw (lt-ltb a 256 p, le-ltb b 256 (omega (arith, q)), le-ltb (bit_or a b) 256 (omega (arith, q, (or_ge a b).1)))
-    go (no p) q = rw (le-ltb a 256 (omega (arith, p)), le-ltb (bit_or a b) 256 (omega (arith, p, (or_ge a b).0)))
 
 -- ---- pairs
 
@@ -96,37 +81,6 @@ ended_parts high low s n e =
 
 -- ---- pairs that are read one by one, and tested together
 
--- of n pairs the first i are read, and joined bit by bit
-pub record Joined (high low s : List ℕ) (n : ℕ) (pairs : List ℕ) (i joined : ℕ) : Type 0 where
-  pub long : length pairs ≡ n
-  pub first : take i pairs ≡ pairs_at high low s i
-  pub test : ltb joined 256 ≡ pairs_right high low s i
-
-pub joined_start : (high low s : List ℕ) (n : ℕ) → Joined high low s n (replicate n 0) 0 0
-unfolding pairs_at pairs_right
-joined_start high low s n = record { long = length-replicate n 0; first = refl; test = refl }
-
-pub joined_step : {high low s pairs : List ℕ} {n i joined v : ℕ} → Joined high low s n pairs i joined → i < n → v ≡ pair_at high low s (2 * i) → Joined high low s n (set pairs i v) (i + 1) (bit_or joined v)
-unfolding pairs_at pairs_right
-joined_step {high} {low} {s} {pairs} {n} {i} {joined} {v} g h e =
-    let l : i < length pairs = omega (arith, g.long) in
-    record {
-      long = length-set pairs i v ∙ g.long;
-      first = rw (add-one i, take-suc-set pairs i v l, g.first, ← e);
-      test = rw (add-one i, ← e, ← g.test) (sym (both_below joined v));
-    }
-
-module _ {high low s pairs : List ℕ} {n i joined : ℕ} (g : Joined high low s n pairs i joined) (all : n ≡ i) where
-  pub joined_right : joined < 256 → Some pairs ≡ pairs_read high low s n
-  unfolding pairs_read
-  joined_right h =
-      let whole : pairs ≡ pairs_at high low s i = sym (take_all i pairs (omega (arith, g.long))) ∙ g.first in
-      rw (all, sym g.test ∙ lt-ltb joined 256 h, ← whole)
-
-  pub joined_wrong : 256 ≤ joined → None ≡ pairs_read high low s n
-  unfolding pairs_read
-  joined_wrong h = rw (all, sym g.test ∙ le-ltb joined 256 h)
-
 -- what was read, or not, of what is there where a test holds
 read_test : {A : Type 0} (t : Bool) {x y : A} → Some x ≡ cond t (Some y) None → (t ≡ true) × (x ≡ y)
 read_test true e = (refl, cc)
@@ -135,29 +89,6 @@ read_test false e = absurd cc
 no_test : {A : Type 0} (t : Bool) (y : A) → None ≡ cond t (Some y) None → t ≡ false
 no_test true y e = absurd cc
 no_test false y e = refl
-
-module _ (high low s : List ℕ) (n : ℕ) (long : 2 * n < length s) (feed : get_or s (2 * n) 0 ≡ line_feed) where
-  ended_pairs : ended_by high low s n ≡ pairs_right high low s n
-  unfolding ended_by
-  ended_pairs = rw (lt-ltb (2 * n) (length s) long, eq-eqb (get_or s (2 * n) 0) line_feed feed)
-
-  pub fields_right : {r : Option (List ℕ)} → r ≡ pairs_read high low s n → r ≡ fields_read high low s n
-  unfolding pairs_read fields_read
-  fields_right e = e ∙ rw ended_pairs
-
--- what is made of n fields that were read, and that nothing is made of what wasn't
-module _ {A : Type 0} (high low s : List ℕ) (n : ℕ) (make : List ℕ → A) {r : Option (List ℕ)} (read : r ≡ fields_read high low s n) where
-  pub fields_some : {xs : List ℕ} → r ≡ Some xs → Some (make xs) ≡ cond (ended_by high low s n) (Some (make (pairs_at high low s n))) None
-  unfolding fields_read
-  fields_some {xs} e =
-      let k = read_test (ended_by high low s n) (sym e ∙ read) in
-      rw (k.0, k.1)
-
-  pub fields_none : r ≡ None → None ≡ cond (ended_by high low s n) (Some (make (pairs_at high low s n))) None
-  unfolding fields_read
-  fields_none e = rw (no_test (ended_by high low s n) _ (sym e ∙ read))
-
--- ---- a role set, pair by pair
 
 pairs_long : (high low s : List ℕ) (n : ℕ) → length (pairs_at high low s n) ≡ n
 unfolding pairs_at
@@ -186,6 +117,70 @@ module _ (high low s : List ℕ) where
           → (pairs_right high low s n ≡ true) × (ltb (pair_at high low s (2 * n)) 256 ≡ true) → pair_at high low s (2 * k) < 256
       go (yes l) before p = before l p.0
       go (no l) before p = let e : k ≡ n = omega (arith, l) in rw e (ltb-true _ 256 p.1)
+
+-- ---- pairs that are read one by one
+
+-- of n pairs the first i are read
+pub record Sofar (high low s : List ℕ) (n : ℕ) (pairs : List ℕ) (i : ℕ) : Type 0 where
+  pub long : length pairs ≡ n
+  pub first : take i pairs ≡ pairs_at high low s i
+  pub right : pairs_right high low s i ≡ true
+
+pub pairs_start : (high low s : List ℕ) (n : ℕ) → Sofar high low s n (replicate n 0) 0
+unfolding pairs_at pairs_right
+pairs_start high low s n = record { long = length-replicate n 0; first = refl; right = refl }
+
+module _ {high low s pairs : List ℕ} {n i : ℕ} (g : Sofar high low s n pairs i) where
+  pub pairs_step : {r : Option ℕ} {v : ℕ} → i < n → r ≡ pair_read high low s (2 * i) → r ≡ Some v → Sofar high low s n (set pairs i v) (i + 1)
+  unfolding pairs_at pairs_right pair_read
+  pairs_step {r} {v} h read was =
+      let p = read_test (ltb (pair_at high low s (2 * i)) 256) (sym was ∙ read) in
+      let l : i < length pairs = omega (arith, g.long) in
+      record {
+        long = length-set pairs i v ∙ g.long;
+        first = rw (add-one i, take-suc-set pairs i v l, g.first, p.1);
+        right = rw (add-one i, g.right, p.0);
+      }
+
+  pub pairs_wrong : {r : Option ℕ} → i < n → r ≡ pair_read high low s (2 * i) → r ≡ None → None ≡ pairs_read high low s n
+  unfolding pairs_read pair_read
+  pairs_wrong {r} h read was = go (pairs_right high low s n) refl
+    where
+      bad : ltb (pair_at high low s (2 * i)) 256 ≡ false
+      bad = no_test (ltb (pair_at high low s (2 * i)) 256) _ (sym was ∙ read)
+
+      go : (t : Bool) → pairs_right high low s n ≡ t → None ≡ cond t (Some (pairs_at high low s n)) None
+      go true e = absurd (true≢false (sym (lt-ltb _ 256 (pairs_below high low s n i h e)) ∙ bad))
+      go false e = refl
+
+  pub pairs_all : n ≡ i → Some pairs ≡ pairs_read high low s n
+  unfolding pairs_read
+  pairs_all all =
+      let whole : pairs ≡ pairs_at high low s i = sym (take_all i pairs (omega (arith, g.long))) ∙ g.first in
+      rw (all, g.right, ← whole)
+
+module _ (high low s : List ℕ) (n : ℕ) (long : 2 * n < length s) (feed : get_or s (2 * n) 0 ≡ line_feed) where
+  ended_pairs : ended_by high low s n ≡ pairs_right high low s n
+  unfolding ended_by
+  ended_pairs = rw (lt-ltb (2 * n) (length s) long, eq-eqb (get_or s (2 * n) 0) line_feed feed)
+
+  pub fields_right : {r : Option (List ℕ)} → r ≡ pairs_read high low s n → r ≡ fields_read high low s n
+  unfolding pairs_read fields_read
+  fields_right e = e ∙ rw ended_pairs
+
+-- what is made of n fields that were read, and that nothing is made of what wasn't
+module _ {A : Type 0} (high low s : List ℕ) (n : ℕ) (make : List ℕ → A) {r : Option (List ℕ)} (read : r ≡ fields_read high low s n) where
+  pub fields_some : {xs : List ℕ} → r ≡ Some xs → Some (make xs) ≡ cond (ended_by high low s n) (Some (make (pairs_at high low s n))) None
+  unfolding fields_read
+  fields_some {xs} e =
+      let k = read_test (ended_by high low s n) (sym e ∙ read) in
+      rw (k.0, k.1)
+
+  pub fields_none : r ≡ None → None ≡ cond (ended_by high low s n) (Some (make (pairs_at high low s n))) None
+  unfolding fields_read
+  fields_none e = rw (no_test (ended_by high low s n) _ (sym e ∙ read))
+
+-- ---- a role set, pair by pair
 
 -- the first i pairs make this number
 pub record SoFar (high low s : List ℕ) (i set : ℕ) : Type 0 where
@@ -438,9 +433,21 @@ module _ (high low rest : List ℕ) where
       go (yes l) = known k l
       go (no l) = other k (inr (omega (arith, l)))
 
+-- no frame begins with what is no two digits
+pub frame_wrong : (high low line : List ℕ) {k : Option ℕ} → k ≡ pair_read high low line 0 → k ≡ None → None ≡ frame_by high low line
+unfolding frame_by frame_if call_by is_frame pair_read
+frame_wrong high low line read was =
+    let k : ℕ = pair_at high low line 0 in
+    let big : 16 < k = omega (arith, ltb-false k 256 (no_test (ltb k 256) k (sym was ∙ read))) in
+    rw (unknown k (λ i. pair_at high low (drop 2 line) (2 * i)) (pairs_number high low (drop 4 (drop 2 line)) 8) (inr big), and-false (leb 2 (length line)))
+
 -- the kind was read, and then the fields, by the kind
-module _ (high low line : List ℕ) {kind : ℕ} {r : Option Rest} (long : 2 ≤ length line) (first : kind ≡ pair_at high low line 0)
+module _ (high low line : List ℕ) {k : Option ℕ} {kind : ℕ} {r : Option Rest} (long : 2 ≤ length line) (digits : k ≡ pair_read high low line 0) (two : k ≡ Some kind)
     (read : r ≡ fields_by high low (take (length line - 2) (drop 2 line)) (rest_digits kind)) where
+  first : kind ≡ pair_at high low line 0
+  unfolding pair_read
+  first = (read_test (ltb (pair_at high low line 0) 256) (sym two ∙ digits)).1
+
   frame_made : made kind r ≡ frame_by high low line
   unfolding frame_by call_by
   frame_made = rw (read, to_end 2 line long, le-leb 2 (length line) long, ← first) (of_kind high low (drop 2 line) kind)

@@ -12,6 +12,10 @@ use Rattle.decoding.specs.declared.read.Rest.{Rest}
 unfoldable pub pair_at : List ℕ → List ℕ → List ℕ → ℕ → ℕ
 pair_at high low s at = get_or high (get_or s at 0) 0 + get_or low (get_or s (at + 1) 0) 0
 
+-- where they are digits
+unfoldable pub pair_read : List ℕ → List ℕ → List ℕ → ℕ → Option ℕ
+pair_read high low s at = cond (ltb (pair_at high low s at) 256) (Some (pair_at high low s at)) None
+
 -- the first n pairs are all of digits
 unfoldable pub pairs_right : List ℕ → List ℕ → List ℕ → ℕ → Bool
 pairs_right high low s zero = true

@@ -1,7 +1,7 @@
 // Reading a frame: two digits give the kind, and the fields are taken from the rest of the line.
 ghost use Rattle.std.specs.Prelude.{◌≡◌, ◌+◌, ◌*◌, ◌≤◌, length};
 ghost use Rattle.protocol.specs.Lines.{rest_digits, call_of};
-ghost use Rattle.decoding.specs.Fields.{pair_at, pairs_read, fields_read, chosen_set, addition, fields_by};
+ghost use Rattle.decoding.specs.Fields.{pair_read, pairs_read, fields_read, chosen_set, addition, fields_by};
 ghost use Rattle.decoding.specs.Frames.{frame_by};
 
 use super::lines;
@@ -29,27 +29,25 @@ struct Rest {
     fields: Fields,
 }
 
-// The number of the two digits at a place, and 256 or more where one of the bytes is no digit.
-fn two(digits: &Digits, s: &[u8], at: usize) -> usize
+// The number of the two digits at a place.
+fn two(digits: &Digits, s: &[u8], at: usize) -> Option<usize>
     requires { at + 2 ≤ length s.now }
-    ensures { result ≡ pair_at digits.now.high digits.now.low s.now at }
+    ensures { result ≡ pair_read digits.now.high digits.now.low s.now at }
 {
     digits.pair(s[at], s[at + 1])
 }
 
-// The numbers of the first N pairs, where they are of digits.
+// The numbers of the first N pairs.
 fn pairs<const N: usize>(digits: &Digits, s: &[u8]) -> Option<[usize; N]>
     requires { 2 * N ≤ length s.now }
     ensures { result ≡ pairs_read digits.now.high digits.now.low s.now N }
 {
     let mut pairs = [0; N];
-    let mut joined = 0;
     for (i, pair) in pairs.iter_mut().enumerate() {
-        let number = two(digits, s, 2 * i);
+        let number = two(digits, s, 2 * i)?;
         *pair = number;
-        joined |= number;
     }
-    if joined < 256 { Some(pairs) } else { None }
+    Some(pairs)
 }
 
 // The same of a rest that a line feed ends behind them.
@@ -145,7 +143,7 @@ pub(crate) fn decode(digits: &Digits, line: &[u8]) -> Option<Frame>
     if line.len() < 2 {
         return None;
     }
-    let kind = two(digits, line, 0) as u64;
+    let kind = two(digits, line, 0)? as u64;
     let rest = fields_of(digits, &line[2..], kind)?;
     Some(Frame {
         call: kinds::call_of(kind, rest.fields),

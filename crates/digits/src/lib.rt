@@ -2,8 +2,8 @@
 // loop makes them once and lends them to whatever reads a line.
 #![tactic(auto)]
 
-ghost use Rattle.std.specs.Prelude.{◌≡◌, ◌+◌, ◌≤◌, get_or};
-ghost use Rattle.digits.specs.Tables.{digit_table, high_table, low_table};
+ghost use Rattle.std.specs.Prelude.{◌≡◌, ◌≤◌};
+ghost use Rattle.digits.specs.Tables.{digit_table, high_table, low_table, pair_by};
 
 // How many bytes there are: a table has an entry for each.
 pub const BYTES: usize = 256;
@@ -45,11 +45,12 @@ impl Digits {
         }
     }
 
-    // The number of two digits by any two tables; by those of the digits it is 256 or more where one of
-    // the bytes is no digit.
-    pub fn pair(&self, first: u8, second: u8) -> usize
-        ensures { result ≡ get_or self.now.high first 0 + get_or self.now.low second 0 }
+    // The number of two digits by any two tables, where it is below 256: by those of the digits, where both
+    // bytes are digits.
+    pub fn pair(&self, first: u8, second: u8) -> Option<usize>
+        ensures { result ≡ pair_by self.now.high self.now.low first second }
     {
-        usize::from(self.high[usize::from(first)]) + usize::from(self.low[usize::from(second)])
+        let number = usize::from(self.high[usize::from(first)]) + usize::from(self.low[usize::from(second)]);
+        if number < 256 { Some(number) } else { None }
     }
 }
