@@ -1,7 +1,7 @@
 -- A line as it is taken for a frame: what its length says of it, and that it is the call that the line is.
 -- Assumes nothing.
 use Prim.Native.Nat.{ℕ, ◌+◌, ◌≤◌, ◌<◌}
-use mathlib.Core.Path.{◌≡◌, refl, sym, ◌∙◌}
+use mathlib.Core.Path.{◌≡◌, refl, ap, sym, ◌∙◌}
 use mathlib.Core.Bool.{Bool, true, false}
 use mathlib.Core.List.{List, [], ◌∷◌, ◌++◌}
 use native.Mathlib.Omega.{arith}
@@ -16,21 +16,21 @@ use Rattle.protocol.specs.Run.{feed_at}
 use Rattle.protocol.proofs.Laws.{NoFeed, none, longer, empty_line, feed_within, feed_at_le, no_feed_of}
 use Rattle.decoding.specs.Frames.{framing, IsFramed}
 
-pub framing_long : (line : List ℕ) → kept ≤ length line → take 0 line ≡ framing line
+pub framing_long : (line : List ℕ) → kept ≤ length line → [] ≡ framing line
 unfolding framing
 framing_long line l = rw (le-leb kept (length line) l) refl
 
-pub framing_feed : (line : List ℕ) → length line < kept → feed_at line < length line → take 0 line ≡ framing line
+pub framing_feed : (line : List ℕ) → length line < kept → feed_at line < length line → [] ≡ framing line
 unfolding framing
 framing_feed line l k = rw (lt-leb kept (length line) l, lt-ltb (feed_at line) (length line) k) refl
 
-pub framing_line : (line : List ℕ) → length line < kept → length line ≤ feed_at line → take (length line) line ≡ framing line
+pub framing_line : (line : List ℕ) → length line < kept → length line ≤ feed_at line → line ≡ framing line
 unfolding framing
-framing_line line l k = rw (lt-leb kept (length line) l, le-ltb (feed_at line) (length line) k) (take_all (length line) line (omega arith))
+framing_line line l k = rw (lt-leb kept (length line) l, le-ltb (feed_at line) (length line) k) refl
 
-pub is_framed : (line bytes : List ℕ) (n : ℕ) → n ≤ length line → n < kept → take n line ≡ framing line → take (length (take n line) + 1) bytes ≡ take n line ++ (line_feed ∷ [])
-    → IsFramed line (record { bytes = bytes; len = n + 1 })
-is_framed line bytes n l k f h = record { bytes = rw (length-take-le n line l, f) at h; within = omega arith }
+pub is_framed : (line framed bytes : List ℕ) → framed ≡ framing line → length framed < kept → take (length framed + 1) bytes ≡ framed ++ (line_feed ∷ [])
+    → IsFramed line (record { bytes = bytes; len = length framed + 1 })
+is_framed line framed bytes f l h = record { bytes = h ∙ ap (λ (b : List ℕ). b ++ (line_feed ∷ [])) f; within = omega arith }
 
 -- ---- what is taken for a frame is the same call, and has no line feed
 

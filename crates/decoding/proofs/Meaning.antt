@@ -15,7 +15,8 @@ use mir.Val.{Fits}
 use lib.Dec.{ltb, eqb, leb}
 use lib.ListN.{length, get_or, take, drop, length-drop, length-append}
 use lib.Seq.{take-nil, take-add, take-take, drop-cons, drop-drop, drop_at, take_at, get_or-drop, get_or_at, length-take-le}
-use borrow.Author.Tests.{lt-ltb, eq-eqb, le-leb, eqb-true, leb-true}
+use Rattle.std.specs.Prelude.{Option, Some, None}
+use borrow.Author.Tests.{lt-ltb, le-ltb, eq-eqb, le-leb, eqb-true, leb-true}
 use Rattle.sets.specs.Sets.{count}
 use Rattle.sets.proofs.Laws.{and_both, count_all}
 use Rattle.model.specs.declared.calls.Change.TheVariants.{Assign, Withdraw, Permit, Revoke, Forward, Mandate}
@@ -26,13 +27,13 @@ use Rattle.model.specs.declared.calls.Call.TheVariants.{Table, Session, Read, Un
 use Rattle.protocol.specs.Digits.{digit, all_digits, number_from, number}
 use Rattle.protocol.specs.Lines.{line_feed, field, rest_digits, called_by, called, frame, call_of}
 use Rattle.protocol.specs.Run.{feed_at}
-use Rattle.protocol.proofs.Laws.{feed_at_here, feed_at_later, feed_there}
+use Rattle.protocol.proofs.Laws.{feed_at_here, feed_at_later, feed_at_le, feed_there}
 use Rattle.digits.specs.Tables.{high_table, low_table}
 use Rattle.digits.proofs.Meaning.{Two, pair_read}
 use Rattle.kinds.proofs.Laws.{unknown}
 use Rattle.decoding.specs.declared.read.Frame.{Frame}
 use Rattle.decoding.specs.Fields.{pair_at, pairs_right, pairs_number, ended_by}
-use Rattle.decoding.specs.Frames.{is_frame, call_by, frame_by, next_by, LineAt}
+use Rattle.decoding.specs.Frames.{is_frame, call_by, frame_by, line_by, next_by, LineAt}
 use Rattle.decoding.proofs.Reading.{ended_right, ended_parts, begins, begun_parts, frame_by_is, by_kind}
 
 -- ---- bytes
@@ -345,30 +346,29 @@ feed_byte s l =
 
 -- for whoever lends the tables of the digits
 pub next_right : (s : List ℕ) (at : ℕ) → Bytes s → LineAt s at (next_by high_table low_table s at)
-unfolding next_by
-next_right s at bytes =
-    frame_by_is high_table low_table d
-    (λ f. LineAt s at
-    (cond (ltb 0 f.digits) (record { call = f.call; end = at + f.digits; ended = true }) (record { call = Unreadable; end = at + feed_at d; ended = ltb (at + feed_at d) (length s) })))
-    (λ e. record {
-      place = refl;
-      ended = refl;
-      call = λ l.
-          let m : feed_at d < length d = omega (arith, length-drop at s) in
-          no_frame_call _ (λ h. true≢false (sym (here_begins d (feed_at d) b m (feed_byte d m) h) ∙ e));
-    })
-    (λ e.
+unfolding next_by line_by
+next_right s at bytes = frame_by_is high_table low_table d (λ o. LineAt s at (line_by s at o)) (λ e. other (dec_lt (at + feed_at d) (length s)) e) (λ e.
     let framed = framed_by d b e in
     let feed = framed_feed d _ framed in
-    let inside : at + feed_at d < length s = omega (arith, framed.within, length-drop 2 d, length-drop at s) in
-    rw (lt-ltb 0 (2 + rest_digits (pair_at high_table low_table d 0)) (omega arith), ← feed)
-    (record { place = refl; ended = sym (lt-ltb (at + feed_at d) (length s) inside); call = λ l. framed_call d _ framed b ∙ ap (λ i. call_of (take i d)) (sym feed) }))
+    rw (← feed)
+    (record {
+      place = refl;
+      inside = omega (arith, framed.within, length-drop 2 d, length-drop at s);
+      call = framed_call d _ framed b ∙ ap (λ i. call_of (take i d)) (sym feed);
+    }))
   where
     d : List ℕ
     d = drop at s
 
     b : Bytes d
     b = bytes_drop at s bytes
+
+    other : Dec (at + feed_at d < length s) → begins high_table low_table d ≡ false → LineAt s at (line_by s at None)
+    other (yes l) e =
+        let m : feed_at d < length d = omega (arith, length-drop at s) in
+        rw (lt-ltb (at + feed_at d) (length s) l)
+        (record { place = refl; inside = l; call = no_frame_call _ (λ h. true≢false (sym (here_begins d (feed_at d) b m (feed_byte d m) h) ∙ e)) })
+    other (no l) e = rw (le-ltb (at + feed_at d) (length s) (omega (arith, l))) (omega (arith, l, feed_at_le d, length-drop at s))
 
 -- ---- a line by itself
 
@@ -377,17 +377,21 @@ unfolding call_of all_digits frame number number_from rest_digits called called_
 empty_line [] e = refl
 empty_line (b ∷ line) e = absurd (omega arith)
 
-module _ (line : List ℕ) (bytes : Bytes line) {f : Frame} (read : f ≡ frame_by high_table low_table (line ++ (line_feed ∷ []))) where
+module _ (line : List ℕ) (bytes : Bytes line) {r : Option Frame} (read : r ≡ frame_by high_table low_table (line ++ (line_feed ∷ []))) where
   front : take (length line) (line ++ (line_feed ∷ [])) ≡ line
   front = take_at line (line_feed ∷ []) (length line) refl
 
-  pub line_found : f.digits ≡ length line → f.call ≡ call_of line
-  line_found = rw read
-      (frame_by_is high_table low_table (line ++ (line_feed ∷ [])) (λ x. x.digits ≡ length line → x.call ≡ call_of line)
-      (λ e h. empty_line line h)
-      (λ e h. framed_call _ _ (framed_by _ (bytes_feed line bytes) e) (bytes_feed line bytes) ∙ ap call_of (ap (λ n. take n (line ++ (line_feed ∷ []))) h ∙ front)))
+  pub line_found : {f : Frame} → r ≡ Some f → f.digits ≡ length line → f.call ≡ call_of line
+  line_found {f} q h =
+      frame_by_is high_table low_table (line ++ (line_feed ∷ [])) (λ o. Some f ≡ o → f.call ≡ call_of line) (λ e p. absurd cc)
+      (λ e p.
+      let c : f.call ≡ call_by high_table low_table (line ++ (line_feed ∷ [])) = cc in
+      let d : f.digits ≡ 2 + rest_digits (pair_at high_table low_table (line ++ (line_feed ∷ [])) 0) = cc in
+      c ∙ framed_call _ _ (framed_by _ (bytes_feed line bytes) e) (bytes_feed line bytes) ∙ ap call_of (ap (λ n. take n (line ++ (line_feed ∷ []))) (sym d ∙ h) ∙ front))
+      (sym q ∙ read)
 
-  pub line_other : (f.digits ≡ length line → ⊥) → Unreadable ≡ call_of line
+  -- no frame is as long as the line
+  pub line_other : ((f : Frame) → r ≡ Some f → f.digits ≡ length line → ⊥) → Unreadable ≡ call_of line
   line_other n =
       let d : List ℕ = line ++ (line_feed ∷ []) in
       let b : Bytes d = bytes_feed line bytes in
@@ -396,7 +400,7 @@ module _ (line : List ℕ) (bytes : Bytes line) {f : Frame} (read : f ≡ frame_
       no_frame_call (call_of line) (λ h.
       let i : is_frame (call_of (take (length line) d)) ≡ true = rw front h in
       let there = framed_here d (length line) l g i in
-      frame_by_is high_table low_table d (λ x. (x.digits ≡ length line → ⊥) → ⊥)
+      frame_by_is high_table low_table d (λ o. frame_by high_table low_table d ≡ o → ⊥)
       (λ e m. true≢false (sym (here_begins d (length line) b l g i) ∙ e))
-      (λ e m. m (sym (framed_feed d _ (framed_by d b e)) ∙ framed_feed d _ there.0 ∙ sym there.1))
-      (rw read at n))
+      (λ e m. n _ (read ∙ m) (sym (framed_feed d _ (framed_by d b e)) ∙ framed_feed d _ there.0 ∙ sym there.1))
+      refl)

@@ -2,29 +2,31 @@
 -- Assumes nothing.
 use Prim.Native.Nat.{ℕ, zero, suc, ◌+◌, ◌-◌, ◌*◌, ◌/◌, ◌^◌, ◌≤◌, ◌<◌}
 use mathlib.Core.Path.{◌≡◌, refl, ap, sym, ◌∙◌}
-use mathlib.Core.Bool.{Bool, true, false, cond, ◌&&◌, and-true, and-false, and_assoc}
-use mathlib.Core.List.{List, [], ◌∷◌}
+use mathlib.Core.Bool.{Bool, true, false, cond, ◌&&◌, and-true, and-false, and_assoc, true≢false}
+use mathlib.Core.List.{List, [], ◌∷◌, ◌++◌}
 use mathlib.Core.Logic.{◌⊎◌, inl, inr, ⊎_elim}
 use native.Mathlib.Nat.{add-zero, add-suc, add_assoc, not-suc-le-zero}
+use native.Mathlib.Numerals.{add-one}
 use native.Mathlib.Decide.{dec_lt}
 use native.Mathlib.Omega.{arith}
 use lib.Bits.{bit_or, or_lt, or_add_and, and_le_l, and_le_r}
 use lib.Dec.{ltb, eqb, leb}
-use lib.ListN.{length, get_or, take, drop, length-drop}
+use lib.ListN.{length, get_or, take, drop, set, replicate, length-drop, length-append, length-set, length-replicate, get_or-append}
 use lib.Pow.{pow-add, pow_mono}
-use lib.Seq.{take_all, get_or-drop}
+use lib.Seq.{take_all, take-suc-set, get_or-drop, get_or_at}
 use types.Run.{OneOf}
-use borrow.Author.Tests.{lt-ltb, le-ltb, eq-eqb, ne_eqb, le-leb, lt-leb, ltb-true, leb-true, eqb-true}
+use borrow.Author.Tests.{lt-ltb, le-ltb, eq-eqb, ne_eqb, le-leb, lt-leb, ltb-true, ltb-false, leb-true, eqb-true}
 use Rattle.sets.proofs.Laws.{and_both}
 use Rattle.model.specs.declared.calls.Call.{Call}
 use Rattle.model.specs.declared.calls.Call.TheVariants.{Unreadable}
 use Rattle.protocol.specs.Lines.{line_feed, rest_digits, called_by}
 use Rattle.kinds.specs.Kinds.{field_in}
 use Rattle.kinds.proofs.Laws.{no_kind, unknown}
-use Rattle.decoding.specs.declared.read.Fields.{Fields}
-use Rattle.decoding.specs.declared.read.Chosen.{Chosen}
+use Rattle.std.specs.Prelude.{Option, Some, None}
+use Rattle.kinds.specs.declared.Fields.{Fields}
+use Rattle.decoding.specs.declared.read.Rest.{Rest}
 use Rattle.decoding.specs.declared.read.Frame.{Frame}
-use Rattle.decoding.specs.Fields.{pair_at, pairs_right, pairs_number, ended_by, fields_of, no_fields, one_field, two_fields, four_fields, chosen_set, addition, fields_by}
+use Rattle.decoding.specs.Fields.{pair_at, pair_read, pairs_right, pairs_number, pairs_at, pairs_read, fields_read, ended_by, fields_of, one_field, two_fields, four_fields, set_pairs, chosen_set, addition, fields_by}
 use Rattle.decoding.specs.Frames.{is_frame, frame_if, call_by, frame_by}
 
 -- a part of a list that runs to its end
@@ -33,21 +35,6 @@ to_end n s h = take_all (length s - n) (drop n s) (omega (arith, length-drop n s
 
 pub to_end_long : (n m : ℕ) (s : List ℕ) → n + m ≤ length s → m ≤ length (take (length s - n) (drop n s))
 to_end_long n m s h = rw (to_end n s (omega arith)) (omega (arith, length-drop n s))
-
--- ---- several numbers by one test
-
--- numbers joined bit by bit are at least each of them
-or_ge : (a b : ℕ) → (a ≤ bit_or a b) × (b ≤ bit_or a b)
-or_ge a b = (omega (arith, or_add_and a b, and_le_r a b), omega (arith, or_add_and a b, and_le_l a b))
-
--- so they are all below 256 where the joined number is
-both_below : (a b : ℕ) → (ltb a 256 && ltb b 256) ≡ ltb (bit_or a b) 256
-both_below a b = go (dec_lt a 256) (dec_lt b 256)
-  where
-    go : Dec (a < 256) → Dec (b < 256) → (ltb a 256 && ltb b 256) ≡ ltb (bit_or a b) 256
-    go (yes p) (yes q) = rw (lt-ltb a 256 p, lt-ltb b 256 q, lt-ltb (bit_or a b) 256 (or_lt 8 a b p q))
-    go (yes p) (no q) = rw (lt-ltb a 256 p, le-ltb b 256 (omega (arith, q)), le-ltb (bit_or a b) 256 (omega (arith, q, (or_ge a b).1)))
-    go (no p) q = rw (le-ltb a 256 (omega (arith, p)), le-ltb (bit_or a b) 256 (omega (arith, p, (or_ge a b).0)))
 
 -- ---- pairs
 
@@ -92,104 +79,180 @@ ended_parts high low s n e =
     let q = and_both (eqb (get_or s (2 * n) 0) line_feed) _ p.1 in
     (ltb-true (2 * n) (length s) p.0, eqb-true (get_or s (2 * n) 0) line_feed q.0, q.1)
 
--- one test for one field, for two, and for four
-pub one_test : (high low s : List ℕ) {a : ℕ} → a ≡ pair_at high low s 0 → pairs_right high low s 1 ≡ ltb a 256
-unfolding pairs_right
-one_test high low s first = rw first
+-- ---- pairs that are read one by one, and tested together
 
-pub two_test : (high low s : List ℕ) {a b : ℕ} → a ≡ pair_at high low s 0 → b ≡ pair_at high low s 2 → pairs_right high low s 2 ≡ ltb (bit_or a b) 256
-unfolding pairs_right
-two_test high low s {a} {b} first second = rw (← first, ← second) (both_below a b)
+-- what was read, or not, of what is there where a test holds
+read_test : {A : Type 0} (t : Bool) {x y : A} → Some x ≡ cond t (Some y) None → (t ≡ true) × (x ≡ y)
+read_test true e = (refl, cc)
+read_test false e = absurd cc
 
-pub four_test : (high low s : List ℕ) {a b c d : ℕ} → a ≡ pair_at high low s 0 → b ≡ pair_at high low s 2 → c ≡ pair_at high low s 4 → d ≡ pair_at high low s 6
-    → pairs_right high low s 4 ≡ ltb (bit_or (bit_or (bit_or a b) c) d) 256
-unfolding pairs_right
-four_test high low s {a} {b} {c} {d} first second third fourth =
-    rw (← first, ← second, ← third, ← fourth, both_below a b, both_below (bit_or a b) c) (both_below (bit_or (bit_or a b) c) d)
+no_test : {A : Type 0} (t : Bool) (y : A) → None ≡ cond t (Some y) None → t ≡ false
+no_test true y e = absurd cc
+no_test false y e = refl
+
+pairs_long : (high low s : List ℕ) (n : ℕ) → length (pairs_at high low s n) ≡ n
+unfolding pairs_at
+pairs_long high low s zero = refl
+pairs_long high low s (suc n) = length-append (pairs_at high low s n) _ ∙ rw (pairs_long high low s n) (omega arith)
+
+-- item k of the pairs is pair k, and below 256 where they are of digits
+module _ (high low s : List ℕ) where
+  pairs_item : (n k : ℕ) → k < n → get_or (pairs_at high low s n) k 0 ≡ pair_at high low s (2 * k)
+  unfolding pairs_at
+  pairs_item zero k h = absurd (not-suc-le-zero h)
+  pairs_item (suc n) k h = go (dec_lt k n) (pairs_item n k)
+    where
+      go : Dec (k < n) → (k < n → get_or (pairs_at high low s n) k 0 ≡ pair_at high low s (2 * k)) → get_or (pairs_at high low s n ++ (pair_at high low s (2 * n) ∷ [])) k 0 ≡ pair_at high low s (2 * k)
+      go (yes l) before = get_or-append (pairs_at high low s n) _ 0 k (rw (pairs_long high low s n) l) ∙ before l
+      go (no l) before =
+          let e : k ≡ n = omega (arith, l) in
+          rw e (get_or_at (pairs_at high low s n) (pair_at high low s (2 * n)) [] 0 n (pairs_long high low s n))
+
+  pairs_below : (n k : ℕ) → k < n → pairs_right high low s n ≡ true → pair_at high low s (2 * k) < 256
+  unfolding pairs_right
+  pairs_below zero k h t = absurd (not-suc-le-zero h)
+  pairs_below (suc n) k h t = go (dec_lt k n) (pairs_below n k) (and_both (pairs_right high low s n) _ t)
+    where
+      go : Dec (k < n) → (k < n → pairs_right high low s n ≡ true → pair_at high low s (2 * k) < 256)
+          → (pairs_right high low s n ≡ true) × (ltb (pair_at high low s (2 * n)) 256 ≡ true) → pair_at high low s (2 * k) < 256
+      go (yes l) before p = before l p.0
+      go (no l) before p = let e : k ≡ n = omega (arith, l) in rw e (ltb-true _ 256 p.1)
+
+-- ---- pairs that are read one by one
+
+-- of n pairs the first i are read
+pub record Sofar (high low s : List ℕ) (n : ℕ) (pairs : List ℕ) (i : ℕ) : Type 0 where
+  pub long : length pairs ≡ n
+  pub first : take i pairs ≡ pairs_at high low s i
+  pub right : pairs_right high low s i ≡ true
+
+pub pairs_start : (high low s : List ℕ) (n : ℕ) → Sofar high low s n (replicate n 0) 0
+unfolding pairs_at pairs_right
+pairs_start high low s n = record { long = length-replicate n 0; first = refl; right = refl }
+
+module _ {high low s pairs : List ℕ} {n i : ℕ} (g : Sofar high low s n pairs i) where
+  pub pairs_step : {r : Option ℕ} {v : ℕ} → i < n → r ≡ pair_read high low s (2 * i) → r ≡ Some v → Sofar high low s n (set pairs i v) (i + 1)
+  unfolding pairs_at pairs_right pair_read
+  pairs_step {r} {v} h read was =
+      let p = read_test (ltb (pair_at high low s (2 * i)) 256) (sym was ∙ read) in
+      let l : i < length pairs = omega (arith, g.long) in
+      record {
+        long = length-set pairs i v ∙ g.long;
+        first = rw (add-one i, take-suc-set pairs i v l, g.first, p.1);
+        right = rw (add-one i, g.right, p.0);
+      }
+
+  pub pairs_wrong : {r : Option ℕ} → i < n → r ≡ pair_read high low s (2 * i) → r ≡ None → None ≡ pairs_read high low s n
+  unfolding pairs_read pair_read
+  pairs_wrong {r} h read was = go (pairs_right high low s n) refl
+    where
+      bad : ltb (pair_at high low s (2 * i)) 256 ≡ false
+      bad = no_test (ltb (pair_at high low s (2 * i)) 256) _ (sym was ∙ read)
+
+      go : (t : Bool) → pairs_right high low s n ≡ t → None ≡ cond t (Some (pairs_at high low s n)) None
+      go true e = absurd (true≢false (sym (lt-ltb _ 256 (pairs_below high low s n i h e)) ∙ bad))
+      go false e = refl
+
+  pub pairs_all : n ≡ i → Some pairs ≡ pairs_read high low s n
+  unfolding pairs_read
+  pairs_all all =
+      let whole : pairs ≡ pairs_at high low s i = sym (take_all i pairs (omega (arith, g.long))) ∙ g.first in
+      rw (all, g.right, ← whole)
+
+module _ (high low s : List ℕ) (n : ℕ) (long : 2 * n < length s) (feed : get_or s (2 * n) 0 ≡ line_feed) where
+  ended_pairs : ended_by high low s n ≡ pairs_right high low s n
+  unfolding ended_by
+  ended_pairs = rw (lt-ltb (2 * n) (length s) long, eq-eqb (get_or s (2 * n) 0) line_feed feed)
+
+  pub fields_right : {r : Option (List ℕ)} → r ≡ pairs_read high low s n → r ≡ fields_read high low s n
+  unfolding pairs_read fields_read
+  fields_right e = e ∙ rw ended_pairs
+
+-- what is made of n fields that were read, and that nothing is made of what wasn't
+module _ {A : Type 0} (high low s : List ℕ) (n : ℕ) (make : List ℕ → A) {r : Option (List ℕ)} (read : r ≡ fields_read high low s n) where
+  pub fields_some : {xs : List ℕ} → r ≡ Some xs → Some (make xs) ≡ cond (ended_by high low s n) (Some (make (pairs_at high low s n))) None
+  unfolding fields_read
+  fields_some {xs} e =
+      let k = read_test (ended_by high low s n) (sym e ∙ read) in
+      rw (k.0, k.1)
+
+  pub fields_none : r ≡ None → None ≡ cond (ended_by high low s n) (Some (make (pairs_at high low s n))) None
+  unfolding fields_read
+  fields_none e = rw (no_test (ended_by high low s n) _ (sym e ∙ read))
 
 -- ---- a role set, pair by pair
 
--- the first half pairs are of digits and make this number
+-- the first i pairs make this number
 pub record SoFar (high low s : List ℕ) (i set : ℕ) : Type 0 where
-  pub half : ℕ
-  pub place : i ≡ 2 * half
-  pub few : half ≤ 8
-  pub right : pairs_right high low s half ≡ true
-  pub made : set ≡ pairs_number high low s half
-  pub bound : set < 2 ^ (8 * half)
+  pub few : i ≤ 8
+  pub made : set ≡ pairs_number high low s i
+  pub bound : set < 2 ^ (8 * i)
 
 pub sofar_start : (high low s : List ℕ) → SoFar high low s 0 0
-unfolding pairs_right pairs_number
-sofar_start high low s = record { half = 0; place = refl; few = omega arith; right = refl; made = refl; bound = omega arith }
+unfolding pairs_number
+sofar_start high low s = record { few = omega arith; made = refl; bound = omega arith }
 
-module _ {high low s : List ℕ} {i set v : ℕ} (known : SoFar high low s i set) (more : i < 16) where
-  pub sofar_fits : v < 256 → set * 256 + v < 2 ^ 64
-  sofar_fits h = omega (arith, known.bound, pow_mono {i = 8 * known.half} {j = 56} (omega (arith, known.place)))
+module _ (high low s : List ℕ) {pairs : List ℕ} (read : Some pairs ≡ pairs_read high low s 8) where
+  right : (pairs_right high low s 8 ≡ true) × (pairs ≡ pairs_at high low s 8)
+  unfolding pairs_read
+  right = read_test (pairs_right high low s 8) read
 
-  pub sofar_step : v ≡ pair_at high low s i → v < 256 → SoFar high low s (i + 2) (set * 256 + v)
-  unfolding pairs_right pairs_number
-  sofar_step e h =
-      let n : ℕ = known.half in
-      let f : v ≡ pair_at high low s (2 * n) = e ∙ ap (pair_at high low s) known.place in
-      record {
-        half = suc n;
-        place = omega (arith, known.place);
-        few = omega (arith, known.place);
-        right = rw (known.right, ← f, lt-ltb v 256 h);
-        made = rw (known.made, f);
-        bound = let g : 2 ^ (8 * suc n) ≡ 2 ^ (8 * n) * 2 ^ 8 = rw (← pow-add 2 (8 * n) 8) (ap (λ m. 2 ^ m) (omega arith)) in omega (arith, g, known.bound);
-      }
+  module _ {set i : ℕ} (known : SoFar high low s i set) (more : i < 8) where
+    item : get_or pairs i 0 ≡ pair_at high low s (2 * i)
+    item = rw right.1 (pairs_item high low s 8 i more)
 
-  pub sofar_wrong : v ≡ pair_at high low s i → 256 ≤ v → pairs_right high low s 8 ≡ false
-  unfolding pairs_right
-  sofar_wrong e h =
-      let n : ℕ = known.half in
-      let f : v ≡ pair_at high low s (2 * n) = e ∙ ap (pair_at high low s) known.place in
-      let m : suc n + (7 - n) ≡ 8 = omega (arith, known.place) in
-      ap (pairs_right high low s) (sym m) ∙ pairs_split high low (suc n) (7 - n) s ∙ rw (← f, le-ltb v 256 h, and-false (pairs_right high low s n))
+    byte : get_or pairs i 0 < 256
+    byte = rw item (pairs_below high low s 8 i more right.0)
 
-pub sofar_end : {high low s : List ℕ} {i set : ℕ} → SoFar high low s i set → 16 ≤ i → (pairs_right high low s 8 ≡ true) × (set ≡ pairs_number high low s 8)
-sofar_end {high} {low} {s} {i} {set} g h =
-    let e : g.half ≡ 8 = omega (arith, g.place, g.few) in
-    (rw e at g.right, rw e at g.made)
+    pub sofar_fits : set * 256 + get_or pairs i 0 < 2 ^ 64
+    sofar_fits = omega (arith, byte, known.bound, pow_mono {i = 8 * i} {j = 56} (omega arith))
 
--- what was read of a role set that stands behind two fields
-module _ (high low s : List ℕ) {m : Chosen} (long : 20 < length s) (read : m ≡ chosen_set high low (take (length s - 4) (drop 4 s))) where
-  chosen : m ≡ chosen_set high low (drop 4 s)
-  chosen = rw (to_end 4 s (omega arith)) at read
+    pub sofar_step : SoFar high low s (i + 1) (set * 256 + get_or pairs i 0)
+    unfolding pairs_number
+    sofar_step =
+        record {
+          few = omega arith;
+          made = rw (add-one i, item, known.made);
+          bound = let g : 2 ^ (8 * (i + 1)) ≡ 2 ^ (8 * i) * 2 ^ 8 = rw (← pow-add 2 (8 * i) 8) (ap (λ m. 2 ^ m) (omega arith)) in omega (arith, g, byte, known.bound);
+        }
 
-  set_test : m.right ≡ pairs_right high low (drop 4 s) 8
+  pub sofar_end : {set i : ℕ} → SoFar high low s i set → 8 ≤ i → Some set ≡ chosen_set high low s
   unfolding chosen_set
-  set_test = rw chosen (go (pairs_right high low (drop 4 s) 8))
-    where
-      go : (t : Bool) → (cond {A = Chosen} t (record { right = true; set = pairs_number high low (drop 4 s) 8 }) (record { right = false; set = 0 })).right ≡ t
-      go true = refl
-      go false = refl
+  sofar_end {set} {i} g h =
+      let e : i ≡ 8 = omega (arith, g.few) in
+      rw (right.0, g.made, e)
 
-  set_made : m.right ≡ true → m.set ≡ pairs_number high low (drop 4 s) 8
-  unfolding chosen_set
-  set_made h = rw (chosen, sym set_test ∙ h)
+pub set_none : (high low s : List ℕ) {r : Option (List ℕ)} → r ≡ pairs_read high low s 8 → r ≡ None → None ≡ chosen_set high low s
+unfolding pairs_read chosen_set
+set_none high low s read e = rw (no_test (pairs_right high low s 8) _ (sym e ∙ read))
 
-  pub set_wrong : m.right ≡ false → pairs_right high low s 10 ≡ false
-  set_wrong h = pairs_split high low 2 8 s ∙ rw (sym set_test ∙ h) (and-false (pairs_right high low s 2))
+-- ---- two fields and a role set behind them
 
-  pub addition_read : {a b : ℕ} → get_or s 20 0 ≡ line_feed → a ≡ pair_at high low s 0 → b ≡ pair_at high low s 2 → bit_or a b < 256 → m.right ≡ true
-      → fields_of 22 a b 0 0 m.set ≡ addition high low s
-  unfolding addition
-  addition_read {a} {b} f first second h t =
-      let r : pairs_right high low s 10 ≡ true = pairs_split high low 2 8 s ∙ rw (two_test high low s first second ∙ lt-ltb (bit_or a b) 256 h, sym set_test ∙ t) in
-      rw (ended_right high low s 10 long f r, first, second, set_made t)
+module _ (high low s : List ℕ) (long : 20 < length s) (feed : get_or s 20 0 ≡ line_feed) {r : Option (List ℕ)} (two : r ≡ pairs_read high low s 2) where
+  pub addition_none : r ≡ None → None ≡ addition high low s
+  unfolding addition pairs_read
+  addition_none e = not_right _ _ high low s 10 (pairs_split high low 2 8 s ∙ rw (no_test (pairs_right high low s 2) _ (sym e ∙ two)))
 
-pub fields_wrong : (high low s : List ℕ) → pairs_right high low s 2 ≡ false → pairs_right high low s 10 ≡ false
-fields_wrong high low s h = pairs_split high low 2 8 s ∙ rw h
+  module _ {m : Option ℕ} (set : m ≡ chosen_set high low (take (length s - 4) (drop 4 s))) where
+    chosen : m ≡ chosen_set high low (drop 4 s)
+    chosen = rw (to_end 4 s (omega arith)) at set
+
+    pub addition_unset : m ≡ None → None ≡ addition high low s
+    unfolding addition chosen_set
+    addition_unset e = not_right _ _ high low s 10 (pairs_split high low 2 8 s ∙ rw (no_test (pairs_right high low (drop 4 s) 8) _ (sym e ∙ chosen)) (and-false (pairs_right high low s 2)))
+
+    pub addition_some : {xs : List ℕ} {c : ℕ} → r ≡ Some xs → m ≡ Some c → Some (fields_of 22 (get_or xs 0 0) (get_or xs 1 0) 0 0 c) ≡ addition high low s
+    unfolding addition pairs_read pairs_at chosen_set
+    addition_some {xs} {c} e f =
+        let p = read_test (pairs_right high low s 2) (sym e ∙ two) in
+        let q = read_test (pairs_right high low (drop 4 s) 8) (sym f ∙ chosen) in
+        let t : pairs_right high low s 10 ≡ true = pairs_split high low 2 8 s ∙ rw (p.0, q.0) in
+        rw (ended_right high low s 10 long feed t, p.1, q.1)
 
 -- ---- the frame that an input begins with
 
-abbrev pub some : Call → ℕ → Frame
-some c n = record { call = c; digits = n }
-
-abbrev pub none : Frame
-none = record { call = Unreadable; digits = 0 }
+abbrev pub some : Call → ℕ → Option Frame
+some c n = Some (record { call = c; digits = n })
 
 -- whether there is one
 unfoldable pub begins : List ℕ → List ℕ → List ℕ → Bool
@@ -208,22 +271,25 @@ begun_parts high low s e =
     record { long = leb-true 2 (length s) p.0; known = q.0; ended = q.1 }
 
 -- what is so of no frame, and of one that is there, is so of what an input begins with
-pub frame_by_is : (high low s : List ℕ) (P : Frame → Type 0) → (begins high low s ≡ false → P none)
+pub frame_by_is : (high low s : List ℕ) (P : Option Frame → Type 0) → (begins high low s ≡ false → P None)
     → (begins high low s ≡ true → P (some (call_by high low s) (2 + rest_digits (pair_at high low s 0)))) → P (frame_by high low s)
 unfolding frame_by frame_if begins
 frame_by_is high low s P p q = go (begins high low s) refl
   where
-    go : (t : Bool) → begins high low s ≡ t → P (cond t (some (call_by high low s) (2 + rest_digits (pair_at high low s 0))) none)
+    go : (t : Bool) → begins high low s ≡ t → P (cond t (some (call_by high low s) (2 + rest_digits (pair_at high low s 0))) None)
     go true e = q e
     go false e = p e
 
 -- a frame is no longer than the input
-pub frame_within : (high low s : List ℕ) → (frame_by high low s).digits ≤ length s
-frame_within high low s =
-    frame_by_is high low s (λ f. f.digits ≤ length s) (λ e. omega arith)
-    (λ e. let b = begun_parts high low s e in omega (arith, (ended_parts high low (drop 2 s) _ b.ended).0, length-drop 2 s, b.long))
+pub frame_within : (high low s : List ℕ) {f : Frame} → Some f ≡ frame_by high low s → f.digits ≤ length s
+frame_within high low s {f} =
+    frame_by_is high low s (λ o. Some f ≡ o → f.digits ≤ length s) (λ e q. absurd cc)
+    (λ e q.
+    let b = begun_parts high low s e in
+    let d : f.digits ≡ 2 + rest_digits (pair_at high low s 0) = cc in
+    omega (arith, (ended_parts high low (drop 2 s) _ b.ended).0, length-drop 2 s, b.long))
 
-pub frame_short : (high low line : List ℕ) → length line < 2 → none ≡ frame_by high low line
+pub frame_short : (high low line : List ℕ) → length line < 2 → None ≡ frame_by high low line
 unfolding frame_by frame_if
 frame_short high low line h = rw (lt-leb 2 (length line) h)
 
@@ -294,51 +360,52 @@ two_digits =
 -- ---- a frame from the fields that were read
 
 -- what is made of the fields
-abbrev made : ℕ → Fields → Frame
-made k f = cond (eqb f.digits 0) none (some (called_by k (field_in f.a f.b f.c f.d) f.chosen) f.digits)
+made : ℕ → Option Rest → Option Frame
+made k None = None
+made k (Some r) = some (called_by k (field_in r.fields) r.fields.chosen) r.digits
 
 -- what the frame is where the kind is k and this is the rest
-abbrev kind_frame : List ℕ → List ℕ → List ℕ → ℕ → Frame
+abbrev kind_frame : List ℕ → List ℕ → List ℕ → ℕ → Option Frame
 kind_frame high low rest k =
     let call : Call = called_by k (λ i. pair_at high low rest (2 * i)) (pairs_number high low (drop 4 rest) 8) in
     frame_if (is_frame call && ended_by high low rest (rest_digits k / 2)) call (2 + rest_digits k)
 
 module _ (high low rest : List ℕ) where
   -- where the rest ends as it should, the call of the pairs that its kind has; else none
-  shape : (k n digits : ℕ) (good : Fields) (call : Call) → made k good ≡ some call digits
-      → made k (cond (ended_by high low rest n) good no_fields) ≡ frame_if (ended_by high low rest n) call digits
-  unfolding frame_if
+  shape : (k n digits : ℕ) (good : Rest) (call : Call) → made k (Some good) ≡ some call digits
+      → made k (cond (ended_by high low rest n) (Some good) None) ≡ frame_if (ended_by high low rest n) call digits
+  unfolding frame_if made
   shape k n digits good call e = go (ended_by high low rest n)
     where
-      go : (t : Bool) → made k (cond t good no_fields) ≡ cond t (some call digits) none
+      go : (t : Bool) → made k (cond t (Some good) None) ≡ cond t (some call digits) None
       go true = e
       go false = refl
 
-  one : (k : ℕ) (call : Call) → made k (fields_of 4 (pair_at high low rest 0) 0 0 0 0) ≡ some call 4 → made k (one_field high low rest) ≡ frame_if (ended_by high low rest 1) call 4
+  one : (k : ℕ) (call : Call) → made k (Some (fields_of 4 (pair_at high low rest 0) 0 0 0 0)) ≡ some call 4 → made k (one_field high low rest) ≡ frame_if (ended_by high low rest 1) call 4
   unfolding one_field
   one k = shape k 1 4 (fields_of 4 (pair_at high low rest 0) 0 0 0 0)
 
-  two : (k : ℕ) (call : Call) → made k (fields_of 6 (pair_at high low rest 0) (pair_at high low rest 2) 0 0 0) ≡ some call 6
+  two : (k : ℕ) (call : Call) → made k (Some (fields_of 6 (pair_at high low rest 0) (pair_at high low rest 2) 0 0 0)) ≡ some call 6
       → made k (two_fields high low rest) ≡ frame_if (ended_by high low rest 2) call 6
   unfolding two_fields
   two k = shape k 2 6 (fields_of 6 (pair_at high low rest 0) (pair_at high low rest 2) 0 0 0)
 
-  four : (k : ℕ) (call : Call) → made k (fields_of 10 (pair_at high low rest 0) (pair_at high low rest 2) (pair_at high low rest 4) (pair_at high low rest 6) 0) ≡ some call 10
+  four : (k : ℕ) (call : Call) → made k (Some (fields_of 10 (pair_at high low rest 0) (pair_at high low rest 2) (pair_at high low rest 4) (pair_at high low rest 6) 0)) ≡ some call 10
       → made k (four_fields high low rest) ≡ frame_if (ended_by high low rest 4) call 10
   unfolding four_fields
   four k = shape k 4 10 (fields_of 10 (pair_at high low rest 0) (pair_at high low rest 2) (pair_at high low rest 4) (pair_at high low rest 6) 0)
 
-  with_set : (k : ℕ) (call : Call) → made k (fields_of 22 (pair_at high low rest 0) (pair_at high low rest 2) 0 0 (pairs_number high low (drop 4 rest) 8)) ≡ some call 22
+  with_set : (k : ℕ) (call : Call) → made k (Some (fields_of 22 (pair_at high low rest 0) (pair_at high low rest 2) 0 0 (pairs_number high low (drop 4 rest) 8))) ≡ some call 22
       → made k (addition high low rest) ≡ frame_if (ended_by high low rest 10) call 22
   unfolding addition
   with_set k = shape k 10 22 (fields_of 22 (pair_at high low rest 0) (pair_at high low rest 2) 0 0 (pairs_number high low (drop 4 rest) 8))
 
   other : (k : ℕ) → (k < 1) ⊎ (16 < k) → made k (fields_by high low rest (rest_digits k)) ≡ kind_frame high low rest k
-  unfolding fields_by is_frame frame_if
+  unfolding fields_by is_frame frame_if made
   other k h = rw (no_digits k h, unknown k (λ i. pair_at high low rest (2 * i)) (pairs_number high low (drop 4 rest) 8) h)
 
   known : (k : ℕ) → k < 17 → made k (fields_by high low rest (rest_digits k)) ≡ kind_frame high low rest k
-  unfolding fields_by rest_digits called_by field_in is_frame
+  unfolding fields_by rest_digits called_by field_in is_frame made
   known =
       by_kind (λ k. made k (fields_by high low rest (rest_digits k)) ≡ kind_frame high low rest k)
       (other 0 (inl (omega arith)))
@@ -366,15 +433,29 @@ module _ (high low rest : List ℕ) where
       go (yes l) = known k l
       go (no l) = other k (inr (omega (arith, l)))
 
+-- no frame begins with what is no two digits
+pub frame_wrong : (high low line : List ℕ) {k : Option ℕ} → k ≡ pair_read high low line 0 → k ≡ None → None ≡ frame_by high low line
+unfolding frame_by frame_if call_by is_frame pair_read
+frame_wrong high low line read was =
+    let k : ℕ = pair_at high low line 0 in
+    let big : 16 < k = omega (arith, ltb-false k 256 (no_test (ltb k 256) k (sym was ∙ read))) in
+    rw (unknown k (λ i. pair_at high low (drop 2 line) (2 * i)) (pairs_number high low (drop 4 (drop 2 line)) 8) (inr big), and-false (leb 2 (length line)))
+
 -- the kind was read, and then the fields, by the kind
-module _ (high low line : List ℕ) {kind : ℕ} {f : Fields} (long : 2 ≤ length line) (first : kind ≡ pair_at high low line 0)
-    (read : f ≡ fields_by high low (take (length line - 2) (drop 2 line)) (rest_digits kind)) where
-  frame_made : made kind f ≡ frame_by high low line
+module _ (high low line : List ℕ) {k : Option ℕ} {kind : ℕ} {r : Option Rest} (long : 2 ≤ length line) (digits : k ≡ pair_read high low line 0) (two : k ≡ Some kind)
+    (read : r ≡ fields_by high low (take (length line - 2) (drop 2 line)) (rest_digits kind)) where
+  first : kind ≡ pair_at high low line 0
+  unfolding pair_read
+  first = (read_test (ltb (pair_at high low line 0) 256) (sym two ∙ digits)).1
+
+  frame_made : made kind r ≡ frame_by high low line
   unfolding frame_by call_by
   frame_made = rw (read, to_end 2 line long, le-leb 2 (length line) long, ← first) (of_kind high low (drop 2 line) kind)
 
-  pub frame_none : f.digits ≡ 0 → none ≡ frame_by high low line
-  frame_none h = rw (eq-eqb f.digits 0 h) at frame_made
+  pub frame_none : r ≡ None → None ≡ frame_by high low line
+  unfolding made
+  frame_none e = rw e at frame_made
 
-  pub frame_some : (f.digits ≡ 0 → ⊥) → {call : Call} → call ≡ called_by kind (field_in f.a f.b f.c f.d) f.chosen → some call f.digits ≡ frame_by high low line
-  frame_some h e = rw e (rw (ne_eqb f.digits 0 h) at frame_made)
+  pub frame_some : {x : Rest} → r ≡ Some x → {call : Call} → call ≡ called_by kind (field_in x.fields) x.fields.chosen → some call x.digits ≡ frame_by high low line
+  unfolding made
+  frame_some e f = rw f (rw e at frame_made)

@@ -1,223 +1,154 @@
 // Reading a frame: two digits give the kind, and the fields are taken from the rest of the line.
-ghost use Rattle.std.specs.Prelude.{◌≡◌, ◌+◌, ◌≤◌, length};
+ghost use Rattle.std.specs.Prelude.{◌≡◌, ◌+◌, ◌*◌, ◌≤◌, length};
 ghost use Rattle.protocol.specs.Lines.{rest_digits, call_of};
-ghost use Rattle.decoding.specs.Fields.{pair_at, one_field, two_fields, four_fields, chosen_set, addition, fields_by};
+ghost use Rattle.decoding.specs.Fields.{pair_read, pairs_read, fields_read, chosen_set, addition, fields_by};
 ghost use Rattle.decoding.specs.Frames.{frame_by};
 
 use super::lines;
-use digits::BYTES;
+use digits::Digits;
+use kinds::Fields;
 use model::Call;
 use protocol::{KEPT, SET_DIGITS};
 
-// How many digits an addition's fields have, its whole frame, and its fields with a line feed.
+// How many digits an addition's fields have, and how many pairs of them are its role set.
 const ADDITION: usize = 2 * 2 + SET_DIGITS;
 
-const ADDITION_FRAME: usize = 2 + ADDITION;
+const SET_PAIRS: usize = SET_DIGITS / 2;
 
-const ADDITION_LINE: usize = ADDITION + 1;
-
-// The frame that an input begins with: its call, and how many digits it has. Where it begins with
-// none, there is no call and no digit.
+// The frame that an input begins with: its call, and how many digits it has.
 #[derive(Clone, Copy)]
 pub struct Frame {
     pub call: Call,
     pub digits: usize,
 }
 
-const NO_FRAME: Frame = Frame {
-    call: Call::Unreadable,
-    digits: 0,
-};
-
-// The fields of a frame, zero where its kind has none, and how many digits it has with its kind. No
-// digit where they are not right: one is not of digits, or no line feed follows.
-#[derive(Drop)]
-struct Fields {
+// The fields of a frame, and how many digits it has with its kind.
+#[derive(Clone, Copy)]
+struct Rest {
     digits: usize,
-    a: usize,
-    b: usize,
-    c: usize,
-    d: usize,
-    chosen: u64,
+    fields: Fields,
 }
 
-const NO_FIELDS: Fields = Fields {
-    digits: 0,
-    a: 0,
-    b: 0,
-    c: 0,
-    d: 0,
-    chosen: 0,
-};
-
-#[derive(Drop)]
-struct Chosen {
-    right: bool,
-    set: u64,
-}
-
-// The number of the two digits at a place, and 256 or more where one of the bytes is no digit.
-fn two<'a>(high: &'a [u16; BYTES], low: &'a [u16; BYTES], s: &'a [u8], at: usize) -> usize
+// The number of the two digits at a place.
+fn two(digits: &Digits, s: &[u8], at: usize) -> Option<usize>
     requires { at + 2 ≤ length s.now }
-    ensures { result ≡ pair_at high.now low.now s.now at }
+    ensures { result ≡ pair_read digits.now.high digits.now.low s.now at }
 {
-    digits::pair(high, low, s[at], s[at + 1])
+    digits.pair(s[at], s[at + 1])
 }
 
-fn one_field<'a>(high: &'a [u16; BYTES], low: &'a [u16; BYTES], s: &'a [u8]) -> Fields
-    ensures { result ≡ one_field high.now low.now s.now }
+// The numbers of the first N pairs.
+fn pairs<const N: usize>(digits: &Digits, s: &[u8]) -> Option<[usize; N]>
+    requires { 2 * N ≤ length s.now }
+    ensures { result ≡ pairs_read digits.now.high digits.now.low s.now N }
 {
-    if s.len() < 3 {
-        return NO_FIELDS;
+    let mut pairs = [0; N];
+    for (i, pair) in pairs.iter_mut().enumerate() {
+        let number = two(digits, s, 2 * i)?;
+        *pair = number;
     }
-    if s[2] != 10 {
-        return NO_FIELDS;
-    }
-    let a = two(high, low, s, 0);
-    if 256 <= a {
-        return NO_FIELDS;
-    }
-    Fields {
-        digits: 4,
-        a,
-        b: 0,
-        c: 0,
-        d: 0,
-        chosen: 0,
-    }
+    Some(pairs)
 }
 
-fn two_fields<'a>(high: &'a [u16; BYTES], low: &'a [u16; BYTES], s: &'a [u8]) -> Fields
-    ensures { result ≡ two_fields high.now low.now s.now }
+// The same of a rest that a line feed ends behind them.
+fn fields<const N: usize>(digits: &Digits, s: &[u8]) -> Option<[usize; N]>
+    requires { N ≤ 4 }
+    ensures { result ≡ fields_read digits.now.high digits.now.low s.now N }
 {
-    if s.len() < 5 {
-        return NO_FIELDS;
+    if s.len() <= 2 * N {
+        return None;
     }
-    if s[4] != 10 {
-        return NO_FIELDS;
+    if s[2 * N] != b'\n' {
+        return None;
     }
-    let a = two(high, low, s, 0);
-    let b = two(high, low, s, 2);
-    if 256 <= a | b {
-        return NO_FIELDS;
-    }
-    Fields {
-        digits: 6,
-        a,
-        b,
-        c: 0,
-        d: 0,
-        chosen: 0,
-    }
-}
-
-fn four_fields<'a>(high: &'a [u16; BYTES], low: &'a [u16; BYTES], s: &'a [u8]) -> Fields
-    ensures { result ≡ four_fields high.now low.now s.now }
-{
-    if s.len() < 9 {
-        return NO_FIELDS;
-    }
-    if s[8] != 10 {
-        return NO_FIELDS;
-    }
-    let a = two(high, low, s, 0);
-    let b = two(high, low, s, 2);
-    let c = two(high, low, s, 4);
-    let d = two(high, low, s, 6);
-    if 256 <= a | b | c | d {
-        return NO_FIELDS;
-    }
-    Fields {
-        digits: 10,
-        a,
-        b,
-        c,
-        d,
-        chosen: 0,
-    }
+    pairs(digits, s)
 }
 
 // A role set of sixteen digits, two at a time.
-fn sixteen<'a>(high: &'a [u16; BYTES], low: &'a [u16; BYTES], s: &'a [u8]) -> Chosen
+fn role_set(digits: &Digits, s: &[u8]) -> Option<u64>
     requires { 16 ≤ length s.now }
-    ensures { result ≡ chosen_set high.now low.now s.now }
+    ensures { result ≡ chosen_set digits.now.high digits.now.low s.now }
 {
-    let mut set: u64 = 0;
-    let mut i = 0usize;
-    while i < SET_DIGITS {
-        let v = two(high, low, s, i);
-        if 256 <= v {
-            return Chosen {
-                right: false,
-                set: 0,
-            };
-        }
-        set = set * 256 + v as u64;
-        i += 2;
+    let pairs = pairs::<SET_PAIRS>(digits, s)?;
+    let mut set = 0;
+    for pair in pairs.iter() {
+        set = set * 256 + *pair as u64;
     }
-    Chosen { right: true, set }
+    Some(set)
 }
 
 // Two fields and a role set.
-fn fields_and_set<'a>(high: &'a [u16; BYTES], low: &'a [u16; BYTES], s: &'a [u8]) -> Fields
-    ensures { result ≡ addition high.now low.now s.now }
+fn fields_and_set(digits: &Digits, s: &[u8]) -> Option<Rest>
+    ensures { result ≡ addition digits.now.high digits.now.low s.now }
 {
-    if s.len() < ADDITION_LINE {
-        return NO_FIELDS;
+    if s.len() <= ADDITION {
+        return None;
     }
-    if s[ADDITION] != 10 {
-        return NO_FIELDS;
+    if s[ADDITION] != b'\n' {
+        return None;
     }
-    let a = two(high, low, s, 0);
-    let b = two(high, low, s, 2);
-    if 256 <= a | b {
-        return NO_FIELDS;
-    }
-    let m = sixteen(high, low, &s[4..]);
-    if !m.right {
-        return NO_FIELDS;
-    }
-    Fields {
-        digits: ADDITION_FRAME,
-        a,
-        b,
-        c: 0,
-        d: 0,
-        chosen: m.set,
-    }
+    let [a, b] = pairs::<2>(digits, s)?;
+    let chosen = role_set(digits, &s[4..])?;
+    Some(Rest {
+        digits: 2 + ADDITION,
+        fields: Fields {
+            numbers: [a, b, 0, 0],
+            chosen,
+        },
+    })
 }
 
 // The fields of a frame of this kind, of whose rest the input is. Where the kind is not of digits, it
 // falls among the unknown ones. As in `kinds::call_of`, the kinds of the two products share an arm.
-fn fields_of<'a>(high: &'a [u16; BYTES], low: &'a [u16; BYTES], s: &'a [u8], kind: u64) -> Fields
-    ensures { result ≡ fields_by high.now low.now s.now (rest_digits kind) }
+fn fields_of(digits: &Digits, s: &[u8], kind: u64) -> Option<Rest>
+    ensures { result ≡ fields_by digits.now.high digits.now.low s.now (rest_digits kind) }
 {
     match kind {
-        6 | 11 => one_field(high, low, s),
-        1 | 2 | 3 | 4 | 5 | 7 | 10 | 12 | 15 | 16 => two_fields(high, low, s),
-        9 | 14 => four_fields(high, low, s),
-        8 | 13 => fields_and_set(high, low, s),
-        0 | 17..=u64::MAX => NO_FIELDS,
+        6 | 11 => {
+            let [a] = fields::<1>(digits, s)?;
+            Some(Rest {
+                digits: 4,
+                fields: Fields {
+                    numbers: [a, 0, 0, 0],
+                    chosen: 0,
+                },
+            })
+        }
+        1 | 2 | 3 | 4 | 5 | 7 | 10 | 12 | 15 | 16 => {
+            let [a, b] = fields::<2>(digits, s)?;
+            Some(Rest {
+                digits: 6,
+                fields: Fields {
+                    numbers: [a, b, 0, 0],
+                    chosen: 0,
+                },
+            })
+        }
+        9 | 14 => {
+            let numbers = fields::<4>(digits, s)?;
+            Some(Rest {
+                digits: 10,
+                fields: Fields { numbers, chosen: 0 },
+            })
+        }
+        8 | 13 => fields_and_set(digits, s),
+        0 | 17..=u64::MAX => None,
     }
 }
 
 // The frame that an input begins with.
-pub(crate) fn decode<'a>(high: &'a [u16; BYTES], low: &'a [u16; BYTES], line: &'a [u8]) -> Frame
-    ensures { result ≡ frame_by high.now low.now line.now }
+pub(crate) fn decode(digits: &Digits, line: &[u8]) -> Option<Frame>
+    ensures { result ≡ frame_by digits.now.high digits.now.low line.now }
 {
     if line.len() < 2 {
-        return NO_FRAME;
+        return None;
     }
-    let kind = two(high, low, line, 0) as u64;
-    let f = fields_of(high, low, &line[2..], kind);
-    let digits = f.digits;
-    if digits == 0 {
-        return NO_FRAME;
-    }
-    Frame {
-        call: kinds::call_of(kind, f.a, f.b, f.c, f.d, f.chosen),
-        digits,
-    }
+    let kind = two(digits, line, 0)? as u64;
+    let rest = fields_of(digits, &line[2..], kind)?;
+    Some(Frame {
+        call: kinds::call_of(kind, rest.fields),
+        digits: rest.digits,
+    })
 }
 
 // The call that a line is, without its line feed.
@@ -229,11 +160,8 @@ pub fn read_call(line: &[u8]) -> Call
         return Call::Unreadable;
     }
     let bytes = lines::with_feed(line);
-    let high = digits::highs();
-    let low = digits::lows();
-    let f = decode(&high, &low, &bytes[..n + 1]);
-    if f.digits == n {
-        return f.call;
+    match decode(&Digits::new(), &bytes[..n + 1]) {
+        Some(frame) if frame.digits == n => frame.call,
+        _ => Call::Unreadable,
     }
-    Call::Unreadable
 }

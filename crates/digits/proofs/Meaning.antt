@@ -30,6 +30,14 @@ listed_at f i (v ∷ vs) t (suc k) h = rw (add-suc i k, ← suc-add i k) (listed
 entry_at : (f : ℕ → ℕ) (vs : List ℕ) → listed f 0 vs ≡ true → (k : ℕ) → k < length vs → get_or vs k 0 ≡ f k
 entry_at f vs t k h = rw (zero-add k) at (listed_at f 0 vs t k h)
 
+-- the bytes that are digits, in the order of their values
+abbrev glyphs : List ℕ
+glyphs = 48 ∷ 49 ∷ 50 ∷ 51 ∷ 52 ∷ 53 ∷ 54 ∷ 55 ∷ 56 ∷ 57 ∷ 97 ∷ 98 ∷ 99 ∷ 100 ∷ 101 ∷ 102 ∷ []
+
+pub glyph_at : (v : ℕ) → v < 16 → get_or glyphs v 0 ≡ glyph v
+unfolding glyph listed
+glyph_at v h = entry_at glyph glyphs refl v h
+
 -- so many times the value of a digit
 abbrev counts : ℕ → ℕ → ℕ
 counts times b = cond (ltb (digit b) 16) (digit b * times) 256

@@ -2,12 +2,11 @@
 -- Assumes nothing.
 use Prim.Native.Nat.{ℕ, ◌+◌, ◌-◌, ◌≤◌, ◌<◌}
 use mathlib.Core.Path.{◌≡◌, refl, sym, ap, ◌∙◌}
-use mathlib.Core.Bool.{true, false}
 use mathlib.Core.List.{List, [], ◌++◌, append-nil}
 use mathlib.Core.Logic.{◌⊎◌, inl, inr, ⊎_elim}
 use native.Mathlib.Omega.{arith}
 use lib.ListN.{length, take, drop, length-drop}
-use borrow.Author.Tests.{ltb-true, ltb-false}
+use Rattle.std.specs.Prelude.{Option, Some, None}
 use Rattle.model.specs.declared.Engine.{Engine}
 use Rattle.model.specs.declared.calls.Call.{Call}
 use Rattle.model.specs.Calls.{after}
@@ -24,12 +23,8 @@ use Rattle.encoding.proofs.Writing.{wrote_nothing, wrote_length, wrote_both}
 use Rattle.frames.specs.Stream.{Feeds}
 
 -- by the tables of the digits the next line is what it says
-pub line_read : {s high low : List ℕ} {at : ℕ} {r : NextLine} → high ≡ high_table → low ≡ low_table → Bytes s → r ≡ next_by high low s at → LineAt s at r
-line_read {s} {high} {low} {at} h l b e = rw (e, h, l) (next_right s at b)
-
--- a line that has its line feed ends inside the input
-pub line_inside : {s : List ℕ} {at : ℕ} {r : NextLine} → LineAt s at r → r.ended ≡ true → r.end < length s
-line_inside {s} {at} {r} n t = ltb-true r.end (length s) (sym n.ended ∙ t)
+pub line_read : (s : List ℕ) (at : ℕ) {high low : List ℕ} {r line : Option NextLine} → high ≡ high_table → low ≡ low_table → Bytes s → r ≡ next_by high low s at → r ≡ line → LineAt s at line
+line_read s at h l b e f = rw (← f, e, h, l) (next_right s at b)
 
 -- the bytes are the answers so far
 pub record Feeding (input out₀ : List ℕ) (e₀ : Engine) (out : List ℕ) (e : Engine) (at written : ℕ) : Type 0 where
@@ -56,12 +51,12 @@ module _ (input out₀ : List ℕ) (e₀ : Engine) (out : List ℕ) (e : Engine)
   written_fits = omega (arith, out_long, g.put.room, g.put.place)
 
   -- one line more is answered
-  pub feeding_step : (r : NextLine) (out' : List ℕ) (e' : Engine) (written' : ℕ) → LineAt input at r → r.ended ≡ true → longest ≤ length out - written
+  pub feeding_step : (r : NextLine) (out' : List ℕ) (e' : Engine) (written' : ℕ) → LineAt input at (Some r) → longest ≤ length out - written
       → e' ≡ after e r.call → Wrote out out' written written' (reply e r.call) → Feeding input out₀ e₀ out' e' (r.end + 1) written'
-  feeding_step r out' e' written' n t room p w =
-      let l : r.end < length input = line_inside n t in
+  feeding_step r out' e' written' n room p w =
+      let l : r.end < length input = n.inside in
       let c : Call = call_of (take (feed_at (drop at input)) (drop at input)) in
-      let q : r.call ≡ c = n.call l in
+      let q : r.call ≡ c = n.call in
       let here : at + feed_at (drop at input) < length input = omega (arith, n.place) in
       let left : length out₀ - written - length (reply e r.call) ≡ length out₀ - written' = omega (arith, w.place) in
       let line : fed (length out₀ - written) e (drop at input) ≡ wrote (reply e c) (fed (length out₀ - written - length (reply e c)) (after e c) (drop (at + feed_at (drop at input) + 1) input)) = one_line (length out₀ - written) e input at here (omega (arith, out_long)) in
@@ -105,7 +100,5 @@ module _ (input out₀ : List ℕ) (e₀ : Engine) (out : List ℕ) (e : Engine)
   ends_full l = feeding_feeds (inl l)
 
   -- the rest is a line that has no line feed
-  pub ends_open : (r : NextLine) → LineAt input at r → r.ended ≡ false → Feeds input out₀ out e (fed (length out₀) e₀ input) (record { consumed = at; written = written })
-  ends_open r n t =
-      let l : length input ≤ r.end = ltb-false r.end (length input) (sym n.ended ∙ t) in
-      feeding_feeds (inr (omega (arith, n.place, feed_at_le (drop at input), length-drop at input)))
+  pub ends_open : LineAt input at None → Feeds input out₀ out e (fed (length out₀) e₀ input) (record { consumed = at; written = written })
+  ends_open n = feeding_feeds (inr n)

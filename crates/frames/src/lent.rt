@@ -88,25 +88,21 @@ pub fn feed(
 ) -> Fed
     ensures { Feeds input.now out.old out.new (engine_of (directory_of (tables_of roles.new readers.new forwards.new mandates.new) users.new version.new) (sessions_of opened.new counts.new roots.new reaches.new versions.new denies.new rolesets.new)) (fed (length out.old) (engine_of (directory_of (tables_of roles.old readers.old forwards.old mandates.old) users.old version.old) (sessions_of opened.old counts.old roots.old reaches.old versions.old denies.old rolesets.old)) input.now) result }
 {
-    let high = decoding::highs();
-    let low = decoding::lows();
+    let digits = decoding::Digits::new();
     let mut at = 0usize;
     let mut written = 0usize;
     while at < input.len() {
         if out.len() - written < LONGEST {
             break;
         }
-        let line = decoding::next_line(&high, &low, input, at);
-        let end = line.end;
-        if !line.ended {
+        let Some(line) = decoding::next_line(&digits, input, at) else {
             break;
-        }
-        let call = line.call;
+        };
         written = answer_call(
             roles, readers, forwards, mandates, users, version, opened, counts, roots, reaches,
-            versions, denies, rolesets, call, out, written,
+            versions, denies, rolesets, line.call, out, written,
         );
-        at = end + 1;
+        at = line.end + 1;
     }
     Fed {
         consumed: at,

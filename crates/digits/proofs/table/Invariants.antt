@@ -1,11 +1,7 @@
--- The table has the first v digits.
-use Prim.Native.Nat.{◌-◌, ◌≤◌}
+-- The table has the digits so far.
 use mathlib.Core.Path.{◌≡◌}
 use Rattle.digits.specs.Tables.{digit_table}
 use Rattle.digits.proofs.table.Given as goal
 
-abbrev pub invariant-loop-v : goal.invariant-loop-v
-invariant-loop-v l = (l.v ≤ 16) × (l.t ≡ digit_table l.times l.v)
-
-abbrev pub decreases-loop-v : goal.decreases-loop-v
-decreases-loop-v l = 16 - l.v
+abbrev pub invariant-loop-value : goal.invariant-loop-value
+invariant-loop-value l = l.table ≡ digit_table l.times l.value

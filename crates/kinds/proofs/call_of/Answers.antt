@@ -1,5 +1,5 @@
 -- Each arm has the call of its kind, or of its two kinds, one for each product.
-use mathlib.Core.Path.{sym, ◌∙◌}
+use mathlib.Core.Path.{sym}
 use mathlib.Core.Logic.{inl, inr}
 use Prim.Native.Nat.{◌<◌}
 use native.Mathlib.Omega.{arith}
@@ -26,31 +26,31 @@ returns-in-2 c = rw c.in-2.is
 
 pub returns-in-3 : goal.returns-in-3
 unfolding called_by field_in
-returns-in-3 c = c.permit.ensures ∙ rw c.in-3.is
+returns-in-3 c = rw c.in-3.is
 
 pub returns-in-4 : goal.returns-in-4
 unfolding called_by field_in
-returns-in-4 c = c.revoke.ensures ∙ rw c.in-4.is
+returns-in-4 c = rw c.in-4.is
 
 pub returns-in-5 : goal.returns-in-5
 unfolding called_by field_in
 returns-in-5 c = rw c.in-5.is
 
 pub returns-in-6 : goal.returns-in-6
-returns-in-6 c = c.asked.ensures ∙ open_called _ _ _ _ _ _ c.product_of-product.ensures c.in-6.is
+returns-in-6 c = open_called _ _ c.product_of-product.ensures c.in-6.is
 
 pub returns-in-7 : goal.returns-in-7
-returns-in-7 c = c.asked-in-7.ensures ∙ conflicting_called _ _ _ _ _ _ c.product_of-product.ensures c.in-7.is
+returns-in-7 c = conflicting_called _ _ c.product_of-product.ensures c.in-7.is
 
 pub returns-in-8 : goal.returns-in-8
-returns-in-8 c = c.asked-in-8.ensures ∙ add_called _ _ _ _ _ _ c.product_of-product.ensures c.in-8.is
+returns-in-8 c = add_called _ _ c.product_of-product.ensures c.in-8.is
 
 pub returns-in-9 : goal.returns-in-9
-returns-in-9 c = c.read.ensures ∙ read_called _ _ _ _ _ _ c.product_of-product.ensures c.in-9.is
+returns-in-9 c = read_called _ _ c.product_of-product.ensures c.in-9.is
 
 pub returns-in-10 : goal.returns-in-10
-returns-in-10 c = c.asked-in-10.ensures ∙ show_called _ _ _ _ _ _ c.product_of-product.ensures c.in-10.is
+returns-in-10 c = show_called _ _ c.product_of-product.ensures c.in-10.is
 
 pub returns-in-16 : goal.returns-in-16
 unfolding called_by field_in
-returns-in-16 c = c.mandate.ensures ∙ rw c.in-16.is
+returns-in-16 c = rw c.in-16.is

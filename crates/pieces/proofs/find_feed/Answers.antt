@@ -1,15 +1,15 @@
-use mathlib.Core.Path.{refl}
-use Rattle.pieces.proofs.Feeds.{passed_step, passed_found, passed_all}
+use Prim.Native.Nat.{◌+◌}
+use mathlib.Core.Path.{ap}
+use native.Mathlib.Omega.{arith}
+use lib.ListN.{drop, length-drop}
+use Rattle.protocol.proofs.Laws.{feed_at_le}
+use Rattle.pieces.proofs.Feeds.{found}
 use Rattle.pieces.proofs.find_feed.Goals as goal
 
-pub loop-at-init : goal.loop-at-init
-loop-at-init c = refl
-
-pub returns-then-s-at-eq10 : goal.returns-then-s-at-eq10
-returns-then-s-at-eq10 c = passed_found _ _ _ c.loop-at.invariant c.loop-at-test.true c.if-s-at-eq10.true
-
-pub loop-at-preserved : goal.loop-at-preserved
-loop-at-preserved c = passed_step _ _ _ c.loop-at.invariant c.loop-at-test.true c.if-s-at-eq10.false
+pub overflow_add-result : goal.overflow_add-result
+overflow_add-result c =
+    let e = found _ _ _ _ c.min.ensures c.first_feed.ensures c.unwrap_or.ensures in
+    omega (arith, e, feed_at_le (drop c.args.from c.args.s.now), length-drop c.args.from c.args.s.now)
 
 pub returns : goal.returns
-returns c = passed_all _ _ _ c.loop-at.invariant c.loop-at-test.false
+returns c = ap (λ n. c.args.from + n) (found _ _ _ _ c.min.ensures c.first_feed.ensures c.unwrap_or.ensures)

@@ -1,9 +1,10 @@
 -- By the code's test, which is the definition's.
+use mathlib.Core.Path.{◌∙◌, sym}
 use Rattle.pieces.proofs.Keeping.{kept_all, kept_some}
 use Rattle.pieces.proofs.kept_bytes.Goals as goal
 
-pub returns-then-find_feed-left : goal.returns-then-find_feed-left
-returns-then-find_feed-left c = kept_all _ _ c.find_feed.ensures c.if-find_feed-left.true
+pub returns-then-is_some : goal.returns-then-is_some
+returns-then-is_some c = kept_all _ c.first_feed.ensures (sym c.is_some.ensures ∙ c.if-is_some.true)
 
 pub returns : goal.returns
-returns c = kept_some _ _ _ c.find_feed.ensures c.if-find_feed-left.false c.least.ensures
+returns c = kept_some _ c.first_feed.ensures _ (sym c.is_some.ensures ∙ c.if-is_some.false) c.min.ensures
