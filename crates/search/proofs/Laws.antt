@@ -78,7 +78,7 @@ found_passed n roles two u found held g h e =
 -- ---- past the last set
 
 -- what would stand further on is empty, and meets nothing
-pub no_further : (roles may flows : List ℕ) (n : ℕ) → flows ≡ take n may → conflicts_of roles flows (length flows) ≡ conflicts_of roles may n
+no_further : (roles may flows : List ℕ) (n : ℕ) → flows ≡ take n may → conflicts_of roles flows (length flows) ≡ conflicts_of roles may n
 unfolding conflicts_of
 no_further roles may flows n e =
     set_of_cong role_count _ _ (λ c b. some_cong user_count _ _ (λ u a. ap (λ (x : ℕ). there roles u c && leb 2 x) (same (get_or roles u 0))))
@@ -93,3 +93,9 @@ no_further roles may flows n e =
     same held =
         count_cong (length flows) _ _ (λ g h. ap (meeting role_count held) (here g h))
         ∙ sym (count_stops (length flows) n _ (omega (arith, l)) (λ g h i. ap (meeting role_count held) (get_or-eq_default may 0 (omega (arith, l))) ∙ meets_none role_count held))
+
+-- so after all users what is found is what conflicts
+pub found_all : (roles may flows : List ℕ) (n found : ℕ) → Found role_count roles (λ v. leb 2 (count (length flows) (λ g. meeting role_count (get_or roles v 0) (get_or flows g 0)))) user_count found
+    → flows ≡ take n may → found ≡ conflicts_of roles may n
+unfolding conflicts_of
+found_all roles may flows n found g e = g.so_far ∙ no_further roles may flows n e

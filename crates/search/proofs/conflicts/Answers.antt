@@ -1,4 +1,4 @@
-use Prim.Native.Nat.{ℕ, min, ◌-◌}
+use Prim.Native.Nat.{ℕ, min}
 use mathlib.Core.Path.{◌≡◌, refl, sym, ap, ◌∙◌}
 use native.Mathlib.Omega.{arith}
 use lib.Dec.{eqb}
@@ -7,8 +7,7 @@ use borrow.Author.Tests.{eq-eqb, ne_eqb}
 use Rattle.std.proofs.lemmas.List.{take_min}
 use Rattle.sets.proofs.Laws.{count_none, counted, uncounted}
 use Rattle.tables.specs.Tables.{user_count, role_count}
-use Rattle.search.specs.Search.{conflicts_of}
-use Rattle.search.proofs.Laws.{few, second, found_start, found_taken, found_left, found_passed, no_further}
+use Rattle.search.proofs.Laws.{few, second, found_start, found_taken, found_left, found_passed, found_all}
 use Rattle.search.proofs.conflicts.Goals.{then-meets+else-seen-eq2, else-meets, then-difference-ne0+then-seen-eq2-2, then-difference-ne0+else-seen-eq2-2, else-difference-ne0, else-flows-test, then-flows-test+then-meets+then-seen-eq2}
 use Rattle.search.proofs.conflicts.Goals as goal
 
@@ -56,9 +55,8 @@ loop-held-preserved c =
     ]
 
 pub returns : goal.returns
-unfolding conflicts_of
 returns c =
     let may = c.args.may.now in
     let e : c.loop-held.held-index ≡ user_count = omega arith in
-    let first : c.min.result - 0 ≡ min c.args.n (length may) = omega (arith, c.min.ensures) in
-    (rw e at c.loop-held.invariant).so_far ∙ no_further _ may _ _ (ap (λ (m : ℕ). take m may) first ∙ take_min c.args.n may)
+    let least : c.min.result ≡ min c.args.n (length may) = omega (arith, c.min.ensures) in
+    found_all _ may _ _ _ (rw e at c.loop-held.invariant) (ap (λ (m : ℕ). take m may) least ∙ take_min c.args.n may)
