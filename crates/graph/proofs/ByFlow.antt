@@ -4,20 +4,15 @@ use Prim.Native.Nat.{ℕ, ◌<◌}
 use mathlib.Core.Path.{◌≡◌, refl, ap, ◌∙◌}
 use mathlib.Core.Bool.{false}
 use mathlib.Core.List.{List}
-use native.Mathlib.Nat.{zero-add}
-use native.Mathlib.Omega.{arith}
 use lib.Dec.{leb}
-use lib.ListN.{get_or, replicate}
+use lib.ListN.{get_or}
 use borrow.Author.Tests.{lt-leb}
 use Rattle.rows.specs.Reach.{reach}
 use Rattle.tables.specs.Tables.{user_count, role_count, database_count, readers_of}
 use Rattle.model.specs.Limits.{flow_count}
 use Rattle.model.specs.State.{all_sessions, tables_of, reach_with, parents_among, role_set}
-use Rattle.model.proofs.Laws.{get_d_filled}
-use Rattle.graph.specs.Graph.{by_flow, roles_by_flow, overlapping_by_flow, Joined}
-
-flow_at : (p : ℕ → ℕ) (g : ℕ) → g < flow_count → get_or (by_flow p) g 0 ≡ p g
-flow_at p g l = rw (zero-add g) at (get_d_filled 0 p flow_count (replicate flow_count 0) g (omega arith) l)
+use Rattle.graph.specs.Graph.{roles_by_flow, overlapping_by_flow, Joined}
+use Rattle.graph.proofs.Made.{flow_at}
 
 -- from the first step's result `new`, and the second's, `may`
 module _ (readers forwards reaches may : List ℕ) (s n root new : ℕ) (here : leb all_sessions s ≡ false) (p : new ≡ reach database_count forwards root) (q : may ≡ roles_by_flow readers reaches s n new) where

@@ -11,6 +11,7 @@ ghost use Rattle.model.specs.State.{all_sessions, reach_with};
 ghost use Rattle.graph.specs.Graph.{roles_by_flow, overlapping_by_flow};
 
 use model::Engine;
+use std::array;
 use tables::lent;
 
 // "1. Adding databases": the root, and from it on all databases that the record is forwarded to.
@@ -31,6 +32,7 @@ pub fn roles(readers: &[u64; Engine::DATABASES], databases: u64) -> u64
 
 // The databases of flow g of session s, which has n flows, with a new one counted in as the next one:
 // older flows keep those of their addition. None where there is no such flow.
+#[tactic(auto, unfolding(model::specs::State::reach_with, model::specs::State::place))]
 fn databases_with(reaches: &[u64; Engine::PLACES], s: usize, n: usize, new: u64, g: usize) -> u64
     requires s_lt_all_sessions { s < all_sessions }
     requires g_lt_flow_count { g < flow_count }
@@ -48,45 +50,31 @@ fn databases_with(reaches: &[u64; Engine::PLACES], s: usize, n: usize, new: u64,
 // Step 2 for each flow of session s, which has its number among those of both products, with a new flow
 // counted in; nobody where there is no such session. (A slice of reaches in place of their array costs a
 // tenth of the time of a mixed list.)
-pub fn roles_by_flow<'a>(
-    readers: &'a [u64; Engine::DATABASES],
-    reaches: &'a [u64; Engine::PLACES],
+pub fn roles_by_flow(
+    readers: &[u64; Engine::DATABASES],
+    reaches: &[u64; Engine::PLACES],
     s: usize,
     n: usize,
     new: u64,
 ) -> [u64; Engine::FLOWS]
     ensures { result ≡ roles_by_flow readers.now reaches.now s n new }
 {
-    let mut found = [0u64; Engine::FLOWS];
     if Engine::ALL_SESSIONS <= s {
-        return found;
+        return [0; Engine::FLOWS];
     }
-    let mut g = 0usize;
-    while g < Engine::FLOWS {
-        let x = roles(readers, databases_with(reaches, s, n, new, g));
-        found[g] = x;
-        g += 1;
-    }
-    found
+    array::from_fn(|g| roles(readers, databases_with(reaches, s, n, new, g)))
 }
 
 // "3. Adding overlapping roles", for each flow: of its roles, those that are a parent of a role in the
 // deny set. Document 01: the role set for that flow. Who is a parent is the same for every flow, and
 // looked for once.
-pub fn overlapping_roles<'a>(
-    held: &'a [u64; Engine::USERS],
-    roles: &'a [u64; Engine::FLOWS],
+pub fn overlapping_roles(
+    held: &[u64; Engine::USERS],
+    roles: &[u64; Engine::FLOWS],
     deny: u64,
 ) -> [u64; Engine::FLOWS]
     ensures { result ≡ overlapping_by_flow held.now roles.now deny }
 {
-    let mut found = [0u64; Engine::FLOWS];
     let parents = lent::parents(held, deny);
-    let mut g = 0usize;
-    while g < Engine::FLOWS {
-        let x = sets::intersection(roles[g], parents);
-        found[g] = x;
-        g += 1;
-    }
-    found
+    roles.map(|of_flow| sets::intersection(of_flow, parents))
 }

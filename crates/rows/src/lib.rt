@@ -16,22 +16,21 @@ pub const WIDTH: usize = 64;
 pub fn row(rows: &[u64], a: usize) -> u64
     ensures { result ≡ get_or rows.now a 0 }
 {
-    if rows.len() <= a {
-        return 0;
-    }
-    rows[a]
+    rows.get(a).copied().unwrap_or(0)
 }
 
 // Row a of a table is stored; past the last row there is none to store.
 fn put(rows: &mut [u64], a: usize, new: u64)
     ensures { rows.new ≡ set rows.old a new }
 {
+    // Kept: what `get_mut` lends is proved to keep the slice's length, and not its other rows.
     if a < rows.len() {
         rows[a] = new;
     }
 }
 
 // The pair (a, b) is entered in a table.
+#[tactic(auto, unfolding(crate::specs::Rows::entered))]
 pub fn enter(rows: &mut [u64], a: usize, b: usize)
     ensures { rows.new ≡ entered width rows.old a b }
 {
@@ -40,6 +39,7 @@ pub fn enter(rows: &mut [u64], a: usize, b: usize)
 }
 
 // The pair (a, b) is struck out of a table.
+#[tactic(auto, unfolding(crate::specs::Rows::struck))]
 pub fn strike(rows: &mut [u64], a: usize, b: usize)
     ensures { rows.new ≡ struck width rows.old a b }
 {
@@ -48,6 +48,7 @@ pub fn strike(rows: &mut [u64], a: usize, b: usize)
 }
 
 // Whether the pair (a, b) is in a table.
+#[tactic(auto, unfolding(crate::specs::Rows::there))]
 pub fn there(rows: &[u64], a: usize, b: usize) -> bool
     ensures { result ≡ there rows.now a b }
 {
@@ -55,13 +56,15 @@ pub fn there(rows: &[u64], a: usize, b: usize) -> bool
 }
 
 // The union of the rows of the members of s, one member after the other.
+#[tactic(auto, using(sets::proofs::Laws::next_member, sets::proofs::Laws::remove_falls))]
 pub fn image(rows: &[u64; WIDTH], s: u64) -> u64
     ensures { result ≡ image width width (there rows.now) s }
 {
+    // Kept: it goes over the members themselves. An iterator of them would serve here alone.
     let mut left = s;
     let mut found = 0;
     while left != 0 {
-        let a = u64::trailing_zeros(left) as usize;
+        let a = left.trailing_zeros() as usize;
         found = sets::union(found, rows[a]);
         left = sets::remove(left, a);
     }
@@ -75,20 +78,19 @@ fn within(forwards: &[u64; WIDTH], root: usize, steps: usize) -> u64
 {
     let mut seen = sets::insert(0, root);
     let mut new = seen;
-    let mut k = 0;
-    while k < steps {
+    for _ in 0..steps {
         if new == 0 {
             return seen;
         }
         let more = image(forwards, new);
         new = sets::difference(more, seen);
         seen = sets::union(seen, more);
-        k += 1;
     }
     seen
 }
 
 // The reach of a root: the root and every database that forwarding leads to.
+#[tactic(auto, unfolding(crate::specs::Reach::reach))]
 pub fn reach(forwards: &[u64; WIDTH], root: usize) -> u64
     ensures { result ≡ reach width forwards.now root }
 {

@@ -1,6 +1,6 @@
 -- What the search has done so far: a count that stops at two, and roles found user by user. And why it need not look past the last set.
 -- Assumes nothing.
-use Prim.Native.Nat.{ℕ, ◌+◌, ◌≤◌, ◌<◌, ◌^◌}
+use Prim.Native.Nat.{ℕ, min, ◌+◌, ◌≤◌, ◌<◌, ◌^◌}
 use mathlib.Core.Path.{◌≡◌, refl, sym, ap, ◌∙◌}
 use mathlib.Core.Bool.{Bool, true, false, not, ◌&&◌, ◌||◌, true≢false, and-false}
 use mathlib.Core.List.{List}
@@ -8,10 +8,11 @@ use native.Mathlib.Numerals.{add-one}
 use native.Mathlib.Omega.{arith}
 use lib.Dec.{leb, eqb}
 use lib.Pow.{pow_pos}
-use lib.ListN.{length, get_or, get_or-eq_default}
+use lib.ListN.{length, get_or, take, get_or-eq_default}
+use Rattle.std.proofs.lemmas.List.{length-take, get_or-take}
 use borrow.Author.Tests.{le-leb, lt-leb, eq-eqb, ne_eqb}
 use Rattle.sets.specs.Sets.{has, set_of, some, count, joined, lacking, meeting}
-use Rattle.sets.proofs.Laws.{or_none, and_all, some_none, some_suc, some_cong, count_more, count_stops, counted, set_of_lt, set_of_cong, is_set_of, has_set_of, has_empty, has_joined, has_lacking, meets_none}
+use Rattle.sets.proofs.Laws.{or_none, and_all, some_none, some_suc, some_cong, count_cong, count_more, count_stops, counted, set_of_lt, set_of_cong, is_set_of, has_set_of, has_empty, has_joined, has_lacking, meets_none}
 use Rattle.rows.specs.Rows.{there}
 use Rattle.tables.specs.Tables.{user_count, role_count}
 use Rattle.search.specs.Search.{conflicts_of}
@@ -77,9 +78,24 @@ found_passed n roles two u found held g h e =
 -- ---- past the last set
 
 -- what would stand further on is empty, and meets nothing
-pub no_further : (roles may : List ℕ) (k n : ℕ) → k ≡ length may → length may < n → conflicts_of roles may k ≡ conflicts_of roles may n
+no_further : (roles may flows : List ℕ) (n : ℕ) → flows ≡ take n may → conflicts_of roles flows (length flows) ≡ conflicts_of roles may n
 unfolding conflicts_of
-no_further roles may k n e l =
-    set_of_cong role_count _ _
-    (λ c b. some_cong user_count _ _
-    (λ u a. ap (λ (x : ℕ). there roles u c && leb 2 x) (sym (count_stops k n _ (omega arith) (λ g h i. ap (meeting role_count (get_or roles u 0)) (get_or-eq_default may 0 (omega arith)) ∙ meets_none role_count (get_or roles u 0))))))
+no_further roles may flows n e =
+    set_of_cong role_count _ _ (λ c b. some_cong user_count _ _ (λ u a. ap (λ (x : ℕ). there roles u c && leb 2 x) (same (get_or roles u 0))))
+  where
+    l : length flows ≡ min n (length may)
+    l = ap length e ∙ length-take n may
+
+    here : (g : ℕ) → g < length flows → get_or flows g 0 ≡ get_or may g 0
+    here g h = ap (λ (xs : List ℕ). get_or xs g 0) e ∙ get_or-take n may g 0 (omega (arith, l))
+
+    same : (held : ℕ) → count (length flows) (λ g. meeting role_count held (get_or flows g 0)) ≡ count n (λ g. meeting role_count held (get_or may g 0))
+    same held =
+        count_cong (length flows) _ _ (λ g h. ap (meeting role_count held) (here g h))
+        ∙ sym (count_stops (length flows) n _ (omega (arith, l)) (λ g h i. ap (meeting role_count held) (get_or-eq_default may 0 (omega (arith, l))) ∙ meets_none role_count held))
+
+-- so after all users what is found is what conflicts
+pub found_all : (roles may flows : List ℕ) (n found : ℕ) → Found role_count roles (λ v. leb 2 (count (length flows) (λ g. meeting role_count (get_or roles v 0) (get_or flows g 0)))) user_count found
+    → flows ≡ take n may → found ≡ conflicts_of roles may n
+unfolding conflicts_of
+found_all roles may flows n found g e = g.so_far ∙ no_further roles may flows n e

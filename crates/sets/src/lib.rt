@@ -10,16 +10,15 @@ ghost use Rattle.sets.specs.Sets.{has, inserted, removed, joined, shared, lackin
 pub const SIZE: usize = 64;
 
 // Whether i is in x.
+#[tactic(auto, unfolding(crate::specs::Sets::has))]
 pub fn contains(x: u64, i: usize) -> bool
     ensures { result ≡ has x i }
 {
-    if SIZE <= i {
-        return false;
-    }
-    (x >> i) % 2 == 1
+    i < SIZE && (x >> i) % 2 == 1
 }
 
 // The set x with i put in.
+#[tactic(auto, using(crate::proofs::Laws::insert_out))]
 pub fn insert(x: u64, i: usize) -> u64
     ensures { result ≡ inserted 64 x i }
 {
@@ -30,6 +29,7 @@ pub fn insert(x: u64, i: usize) -> u64
 }
 
 // The set x without i.
+#[tactic(auto, using(crate::proofs::Laws::remove_out))]
 pub fn remove(x: u64, i: usize) -> u64
     ensures { result ≡ removed 64 x i }
 {
@@ -40,6 +40,7 @@ pub fn remove(x: u64, i: usize) -> u64
 }
 
 // What is in x or in y.
+#[tactic(auto, using(crate::proofs::Laws::join_law))]
 pub fn union(x: u64, y: u64) -> u64
     ensures { result ≡ joined 64 x y }
 {
@@ -47,6 +48,7 @@ pub fn union(x: u64, y: u64) -> u64
 }
 
 // What is in x and in y.
+#[tactic(auto, using(crate::proofs::Laws::share_law))]
 pub fn intersection(x: u64, y: u64) -> u64
     ensures { result ≡ shared 64 x y }
 {
@@ -61,6 +63,7 @@ pub fn difference(x: u64, y: u64) -> u64
 }
 
 // Whether some number is in both.
+#[tactic(auto, using(crate::proofs::Laws::meet_law))]
 pub fn meets(x: u64, y: u64) -> bool
     ensures { result ≡ meeting 64 x y }
 {
@@ -68,8 +71,9 @@ pub fn meets(x: u64, y: u64) -> bool
 }
 
 // How many numbers are in x.
+#[tactic(auto, using(crate::proofs::Laws::size_law))]
 pub fn size(x: u64) -> u32
     ensures { result ≡ size_of 64 x }
 {
-    u64::count_ones(x)
+    x.count_ones()
 }

@@ -11,14 +11,7 @@ pub use rows::{enter, reach, row, strike, there};
 pub fn held(roles: &[u64; Tables::USERS], r: usize) -> bool
     ensures { result ≡ held_by user_count roles.now r }
 {
-    let mut u = 0;
-    while u < Tables::USERS {
-        if sets::contains(roles[u], r) {
-            return true;
-        }
-        u += 1;
-    }
-    false
+    roles.iter().any(|row| sets::contains(*row, r))
 }
 
 // The roles that may read some database of s.
@@ -29,7 +22,8 @@ pub fn readers(readers: &[u64; Tables::DATABASES], s: u64) -> u64
 }
 
 // Whether user u may statically read the databases of s.
-pub fn reads<'a>(roles: &'a [u64], readers: &'a [u64; Tables::DATABASES], u: usize, s: u64) -> bool
+#[tactic(auto, using(crate::proofs::Laws::meets_readers))]
+pub fn reads(roles: &[u64], readers: &[u64; Tables::DATABASES], u: usize, s: u64) -> bool
     ensures { result ≡ statically_reads role_count database_count roles.now readers.now u s }
 {
     let may = rows::image(readers, s);
@@ -41,13 +35,10 @@ pub fn parents(roles: &[u64; Tables::USERS], s: u64) -> u64
     ensures { result ≡ parents_of role_count user_count roles.now s }
 {
     let mut found = 0;
-    let mut u = 0;
-    while u < Tables::USERS {
-        let row = roles[u];
-        if sets::meets(row, s) {
-            found = sets::union(found, row);
+    for row in roles {
+        if sets::meets(*row, s) {
+            found = sets::union(found, *row);
         }
-        u += 1;
     }
     found
 }

@@ -16,6 +16,7 @@ pub use tables::Tables;
 use tables::lent;
 
 // Tables with nothing in them.
+#[tactic(auto, unfolding(tables::specs::Tables::fresh))]
 pub fn empty() -> Tables
     ensures { result ≡ fresh }
 {
@@ -27,73 +28,69 @@ pub fn empty() -> Tables
     }
 }
 
+// Kept: each change is one call on its own table. A function of them all, which takes the table and the
+// call as closures, would say the same in more lines.
+
 // User u gets role r.
+#[tactic(auto, unfolding(tables::specs::Tables::assigned, tables::specs::Tables::with_roles))]
 pub fn assign(mut t: Tables, u: usize, r: usize) -> Tables
     ensures { result ≡ assigned t u r }
 {
-    let mut rows = t.roles;
-    lent::enter(&mut rows, u, r);
-    t.roles = rows;
+    lent::enter(&mut t.roles, u, r);
     t
 }
 
 // User u loses role r.
+#[tactic(auto, unfolding(tables::specs::Tables::withdrawn, tables::specs::Tables::with_roles))]
 pub fn withdraw(mut t: Tables, u: usize, r: usize) -> Tables
     ensures { result ≡ withdrawn t u r }
 {
-    let mut rows = t.roles;
-    lent::strike(&mut rows, u, r);
-    t.roles = rows;
+    lent::strike(&mut t.roles, u, r);
     t
 }
 
 // Role r may read database d from now on.
+#[tactic(auto, unfolding(tables::specs::Tables::permitted, tables::specs::Tables::with_readers))]
 pub fn permit(mut t: Tables, r: usize, d: usize) -> Tables
     ensures { result ≡ permitted t r d }
 {
-    let mut rows = t.readers;
-    lent::enter(&mut rows, d, r);
-    t.readers = rows;
+    lent::enter(&mut t.readers, d, r);
     t
 }
 
 // Role r may not read database d any more.
+#[tactic(auto, unfolding(tables::specs::Tables::revoked, tables::specs::Tables::with_readers))]
 pub fn revoke(mut t: Tables, r: usize, d: usize) -> Tables
     ensures { result ≡ revoked t r d }
 {
-    let mut rows = t.readers;
-    lent::strike(&mut rows, d, r);
-    t.readers = rows;
+    lent::strike(&mut t.readers, d, r);
     t
 }
 
 // Database d forwards to database e from now on.
+#[tactic(auto, unfolding(tables::specs::Tables::forwarded, tables::specs::Tables::with_forwards))]
 pub fn forward(mut t: Tables, d: usize, e: usize) -> Tables
     ensures { result ≡ forwarded t d e }
 {
-    let mut rows = t.forwards;
-    lent::enter(&mut rows, d, e);
-    t.forwards = rows;
+    lent::enter(&mut t.forwards, d, e);
     t
 }
 
 // Database d does not forward to database e any more.
+#[tactic(auto, unfolding(tables::specs::Tables::unforwarded, tables::specs::Tables::with_forwards))]
 pub fn unforward(mut t: Tables, d: usize, e: usize) -> Tables
     ensures { result ≡ unforwarded t d e }
 {
-    let mut rows = t.forwards;
-    lent::strike(&mut rows, d, e);
-    t.forwards = rows;
+    lent::strike(&mut t.forwards, d, e);
     t
 }
 
 // Role r has a mandate at database d from now on.
+#[tactic(auto, unfolding(tables::specs::Tables::mandated, tables::specs::Tables::with_mandates))]
 pub fn mandate(mut t: Tables, r: usize, d: usize) -> Tables
     ensures { result ≡ mandated t r d }
 {
-    let mut mandates = t.mandates;
-    lent::enter(&mut mandates, d, r);
-    t.mandates = mandates;
+    lent::enter(&mut t.mandates, d, r);
     t
 }
 
@@ -143,8 +140,7 @@ pub fn reach(t: Tables, root: usize) -> u64
 pub fn reach_size(t: Tables, root: usize) -> u32
     ensures { result ≡ size_of database_count (reach database_count t.forwards root) }
 {
-    let s = lent::reach(&t.forwards, root);
-    sets::size(s)
+    sets::size(reach(t, root))
 }
 
 // The roles that may read some database of s.

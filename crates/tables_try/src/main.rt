@@ -8,7 +8,7 @@ use tables_by_value::{
 };
 
 // Every number that a set can hold.
-const ALL: u64 = 0xffff_ffff_ffff_ffff;
+const ALL: u64 = u64::MAX;
 
 fn main(rt: HostRuntime) {
     let t = worked();
@@ -90,10 +90,8 @@ fn chain(rt: HostRuntime, t: Tables) {
 
 // The tables in which also each database from 3 to 62 forwards to the next.
 fn linked(mut t: Tables) -> Tables {
-    let mut d = 3;
-    while d < 63 {
+    for d in 3..63 {
         t = forward(t, d, d + 1);
-        d += 1;
     }
     t
 }
@@ -208,13 +206,9 @@ fn line(rt: HostRuntime, n: u64) {
 }
 
 fn count(rt: HostRuntime, n: u32) {
-    line(rt, n as u64);
+    line(rt, u64::from(n));
 }
 
 fn answer(rt: HostRuntime, b: bool) {
-    if b {
-        line(rt, 1);
-    } else {
-        line(rt, 0);
-    }
+    line(rt, u64::from(b));
 }

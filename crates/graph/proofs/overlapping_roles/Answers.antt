@@ -1,18 +1,12 @@
-use mathlib.Core.Path.{◌≡◌}
-use native.Mathlib.Omega.{arith}
-use Rattle.model.specs.Limits.{flow_count}
-use Rattle.model.proofs.Laws.{filled_start, filled_more}
+use borrow.Author.Rules.{rules}
+use Rattle.tables.specs.Tables.{role_count}
+use Rattle.sets.specs.Sets.{shared}
 use Rattle.graph.specs.Graph.{overlapping_by_flow}
+use Rattle.graph.proofs.Made.{flows_mapped}
 use Rattle.graph.proofs.overlapping_roles.Goals as goal
-
-pub loop-g-preserved : goal.loop-g-preserved
-loop-g-preserved c = (omega arith, filled_more 0 _ _ _ _ _ _ c.loop-g.invariant.1 (omega arith) c.intersection-x.ensures)
 
 pub returns : goal.returns
 unfolding overlapping_by_flow
 returns c =
-    let e : c.loop-g.g ≡ flow_count = omega arith in
-    rw (← c.parents-parents.ensures) (rw e at c.loop-g.invariant.1)
-
-pub loop-g-init : goal.loop-g-init
-loop-g-init c = (omega arith, filled_start _ _ _)
+    rw (← c.parents-parents.ensures)
+    (flows_mapped _ _ (λ x. shared role_count x c.parents-parents.result) _ _ c.map.ensures.items (λ x b q k. search rules))

@@ -1,11 +1,7 @@
-use Rattle.std.proofs.Common.{rules, sym}
-use Rattle.sets.specs.Sets.{has}
+use borrow.Author.Tests.{le-ltb}
 use Rattle.sets.proofs.Laws.{has_high}
 use Rattle.sets.proofs.contains.Goals as goal
 
-pub returns-then-i-ge-SIZE : goal.returns-then-i-ge-SIZE
-returns-then-i-ge-SIZE c = sym (has_high 64 _ _ c.ranges.x.fits c.if-i-ge-SIZE.true)
-
-pub returns : goal.returns
-unfolding has
-returns c = search rules
+-- a number past the last is in no set
+pub returns-else-i-lt-SIZE : goal.returns-else-i-lt-SIZE
+returns-else-i-lt-SIZE c = rw (has_high 64 _ _ c.ranges.x.fits c.if-i-lt-SIZE.false) (le-ltb _ _ c.if-i-lt-SIZE.false)

@@ -1,10 +1,6 @@
--- What is found is the roles of those users before u who hold a role of s.
-use Prim.Native.Nat.{◌≤◌, ◌-◌}
+-- What is found is the roles of those users passed who hold a role of s.
 use Rattle.tables.proofs.Laws.{Parents}
 use Rattle.tables.proofs.lent.parents.Given as goal
 
-abbrev pub invariant-loop-u : goal.invariant-loop-u
-invariant-loop-u l = (l.u ≤ 256) × Parents 64 l.roles l.s l.u l.found
-
-abbrev pub decreases-loop-u : goal.decreases-loop-u
-decreases-loop-u l = 256 - l.u
+abbrev pub invariant-loop-row : goal.invariant-loop-row
+invariant-loop-row l = Parents 64 l.roles l.s l.row-index l.found
