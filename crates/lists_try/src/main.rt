@@ -6,7 +6,6 @@
 ghost use Rattle.io.specs.Counts.{IsPrefixLen};
 
 use frames::{LONGEST, Line};
-use model::{Engine, Version};
 use std::env::{Env, FillError};
 use std::fs::File;
 use std::io::{Error, ErrorKind, Print, Read};
@@ -70,42 +69,14 @@ fn end(rt: HostRuntime, len: usize) {
 
 // Runs the list in an open file, from a fresh engine.
 fn run(rt: HostRuntime, file: &mut File) {
-    let mut roles = [0u64; Engine::USERS];
-    let mut readers = [0u64; Engine::DATABASES];
-    let mut forwards = [0u64; Engine::DATABASES];
-    let mut mandates = [0u64; Engine::DATABASES];
-    let mut users = [0 as Version; Engine::USERS];
-    let mut version: Version = 0;
-    let mut opened = 0u64;
-    let mut counts = [0usize; Engine::ALL_SESSIONS];
-    let mut roots = [0usize; Engine::PLACES];
-    let mut reaches = [0u64; Engine::PLACES];
-    let mut versions = [0 as Version; Engine::PLACES];
-    let mut denies = [0u64; Engine::PLACES];
-    let mut rolesets = [0u64; Engine::ROLE_SETS];
+    let mut engine = frames::fresh();
     let mut input = [0u8; PIECE];
     let mut output = [0u8; ROOM];
     let mut len = 0usize;
     let mut turns = u64::MAX;
     while 0 < turns {
         let filled = read_behind(file, &mut input, len);
-        let fed = frames::feed(
-            &mut roles,
-            &mut readers,
-            &mut forwards,
-            &mut mandates,
-            &mut users,
-            &mut version,
-            &mut opened,
-            &mut counts,
-            &mut roots,
-            &mut reaches,
-            &mut versions,
-            &mut denies,
-            &mut rolesets,
-            &input[..filled],
-            &mut output,
-        );
+        let fed = frames::feed(&mut engine, &input[..filled], &mut output);
         show(rt, &output, fed.written);
         let taken = fed.consumed;
         let is_last = is_at_end(len, filled, taken);
