@@ -5,7 +5,7 @@
 #![tactic(auto)]
 
 use frames::Line;
-use taking::{BUFFER, Held};
+use taking::{BUFFER, Held, Input};
 
 // How many bytes there is room for in the sentence about a failure: more than any has.
 const SENTENCE: usize = 128;
@@ -55,24 +55,20 @@ fn end(rt: HostRuntime, held: Held, output: &mut [u8; BUFFER]) {
 
 fn main(rt: HostRuntime) {
     let mut engine = frames::fresh();
-    let mut input = [0u8; BUFFER];
+    let mut input = Input::new();
     let mut output = [0u8; BUFFER];
     let mut source = rt.stdin();
-    let mut held = taking::nothing();
-    while 0 < held.turns {
-        let rest = taking::part(&input, held.from, held.filled);
-        let fed = frames::feed(&mut engine, rest, &mut output);
-        let shown = show(rt, &output, fed.written, held.lines);
-        held = taking::next(
+    while 0 < input.held.turns {
+        let fed = frames::feed(&mut engine, input.part(), &mut output);
+        let shown = show(rt, &output, fed.written, input.held.lines);
+        input.next(
             rt,
             &mut source,
-            &mut input,
-            held,
             fed.consumed,
             shown.lines,
             shown.is_open,
             b"linkage: lines after line ",
         );
     }
-    end(rt, held, &mut output);
+    end(rt, input.held, &mut output);
 }
