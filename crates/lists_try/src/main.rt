@@ -35,8 +35,6 @@ fn read_behind(rt: HostRuntime, file: &mut File, input: &mut [u8], n: usize) -> 
 fn is_at_end(len: usize, filled: usize, taken: usize) -> bool {
     filled <= len && taken == 0
 }
-    taken == 0
-}
 
 // Writes the answer to a last line that has no line feed, of which this many bytes are left.
 fn end(rt: HostRuntime, len: usize) {

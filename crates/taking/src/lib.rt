@@ -114,6 +114,8 @@ impl Input {
     // What is to be fed after this many bytes were taken and this many lines are answered: the rest, where
     // lines may be left in it; else more is read behind what is left. Nothing where the output is closed.
     // The words begin the sentence about input that can't be read.
+    // Not inlined: a program's loop then keeps the code that it had, and a list of reads its time.
+    #[inline(never)]
     pub fn next<R: Read>(
         &mut self,
         rt: HostRuntime,
