@@ -36,11 +36,9 @@ fn engine_at(version: Version) -> Engine {
         versions,
         version,
     };
-    let e = fresh();
-    let sessions = e.sessions;
     Engine {
         directory,
-        sessions,
+        sessions: fresh().sessions,
     }
 }
 
@@ -99,6 +97,7 @@ fn old_directory(t: Tables) -> OldDirectory {
     versions[1] = 65535;
     versions[2] = 255;
     versions[254] = 256;
+    // Kept: an array of a field goes into a literal by a variable.
     let roles = t.roles;
     let readers = t.readers;
     let forwards = t.forwards;
@@ -150,59 +149,57 @@ fn moved(rt: HostRuntime, e: Engine) {
 }
 
 fn reads_of_both(rt: HostRuntime, e: Engine) {
-    answered(rt, read(e, Product::Server, 1, 0, 0, 0));
-    answered(rt, read(e, Product::Server, 2, 0, 0, 0));
-    answered(rt, read(e, Product::Server, 254, 0, 0, 0));
-    answered(rt, read(e, Product::TermBank, 1, 15, 0, 0));
-    answered(rt, read(e, Product::TermBank, 2, 15, 0, 0));
-    answered(rt, read(e, Product::TermBank, 254, 15, 0, 0));
+    reads_of(rt, e, Product::Server, 0);
+    reads_of(rt, e, Product::TermBank, 15);
+}
+
+fn reads_of(rt: HostRuntime, e: Engine, product: Product, session: usize) {
+    for user in [1, 2, 254] {
+        answered(rt, read(e, product, user, session, 0, 0));
+    }
 }
 
 // Versions above 65535: a read is granted where the user's is not above the flow's, and changed where it
 // is. But where both are the same, their last 16 bits tell the other way round, or in the last two their
 // 32 bits with a sign.
 fn versions(rt: HostRuntime) {
-    reading(rt, 65536, 65535);
-    reading(rt, 65535, 65536);
-    reading(rt, 65536, 65536);
-    reading(rt, 131072, 65537);
-    reading(rt, 65537, 131072);
-    reading(rt, Engine::LAST_VERSION, Engine::LAST_VERSION);
-    reading(rt, Engine::LAST_VERSION - 65535, 65535);
-    reading(rt, 65535, Engine::LAST_VERSION - 65535);
-    reading(rt, 2147483648, 2147483647);
-    reading(rt, 2147483647, 2147483648);
+    let pairs = [
+        (65536, 65535),
+        (65535, 65536),
+        (65536, 65536),
+        (131072, 65537),
+        (65537, 131072),
+        (Engine::LAST_VERSION, Engine::LAST_VERSION),
+        (Engine::LAST_VERSION - 65535, 65535),
+        (65535, Engine::LAST_VERSION - 65535),
+        (2147483648, 2147483647),
+        (2147483647, 2147483648),
+    ];
+    for (flow, user) in pairs {
+        reading(rt, flow, user);
+    }
 }
 
 // User 1 reads a flow of one version with another of its own.
 fn reading(rt: HostRuntime, flow: Version, user: Version) {
-    let mut e = engine_at(user);
-    let directory = e.directory;
-    let opened = open_session(e, Product::Server, 0);
-    e = opened.engine;
-    let added = add_flow(e, Product::Server, 0, 0, 0);
-    e = added.engine;
-    let mut kept = e.sessions;
-    kept.versions[0] = flow;
-    let engine = Engine {
-        directory,
-        sessions: kept,
-    };
-    answered(rt, read(engine, Product::Server, 1, 0, 0, 0));
+    let opened = open_session(engine_at(user), Product::Server, 0).engine;
+    let mut added = add_flow(opened, Product::Server, 0, 0, 0).engine;
+    added.sessions.versions[0] = flow;
+    answered(rt, read(added, Product::Server, 1, 0, 0, 0));
 }
 
 // Gives the engine after a call, and writes the call's answer.
 fn said(rt: HostRuntime, x: Changed) -> Engine {
-    let a = x.answer;
-    unshown(rt, a);
+    unshown(rt, x.answer);
     x.engine
 }
 
 fn answered(rt: HostRuntime, v: Verdict) {
-    match v {
-        Verdict::Granted => unshown(rt, Answer::Granted),
-        Verdict::Refused(why) => unshown(rt, Answer::Refused(why)),
-    }
+    let answer = match v {
+        Verdict::Granted => Answer::Granted,
+        Verdict::Refused(why) => Answer::Refused(why),
+    };
+    unshown(rt, answer);
 }
 
 // An answer that shows no constraint.
@@ -216,8 +213,7 @@ fn unshown(rt: HostRuntime, a: Answer) {
 }
 
 fn shown(rt: HostRuntime, x: Shown) {
-    let a = x.answer;
-    line(rt, a, x.constraint);
+    line(rt, x.answer, x.constraint);
 }
 
 fn line(rt: HostRuntime, a: Answer, c: Constraint) {
@@ -229,7 +225,7 @@ fn line(rt: HostRuntime, a: Answer, c: Constraint) {
 
 // Writes the first n bytes. Where they can't be written there is nobody to tell.
 fn write_first(rt: HostRuntime, bytes: &[u8], n: usize) {
-    if n <= bytes.len() {
-        let _ = rt.write_all(&bytes[..n]);
+    if let Some(bytes) = bytes.get(..n) {
+        let _ = rt.write_all(bytes);
     }
 }

@@ -1,11 +1,10 @@
 // The frame program: frames on standard input, answers on standard output, and on standard error what
-// could not be read or written. The engine's arrays are main's own and are lent for each piece of input.
+// could not be read or written. The engine is main's own and is lent for each piece of input.
 // The counts that come back from `frames` are cut to the lengths of the buffers, so that safety rests on
 // none of its contracts.
 #![tactic(auto)]
 
-use model::{Engine, Version};
-use taking::{BUFFER, Held};
+use taking::{BUFFER, Held, Input};
 
 // How many bytes there is room for in the sentence about a failure: more than any has.
 const SENTENCE: usize = 128;
@@ -53,53 +52,21 @@ fn end(rt: HostRuntime, held: Held, output: &mut [u8; BUFFER]) {
 }
 
 fn main(rt: HostRuntime) {
-    let mut roles = [0u64; Engine::USERS];
-    let mut readers = [0u64; Engine::DATABASES];
-    let mut forwards = [0u64; Engine::DATABASES];
-    let mut mandates = [0u64; Engine::DATABASES];
-    let mut users = [0 as Version; Engine::USERS];
-    let mut version: Version = 0;
-    let mut opened = 0u64;
-    let mut counts = [0usize; Engine::ALL_SESSIONS];
-    let mut roots = [0usize; Engine::PLACES];
-    let mut reaches = [0u64; Engine::PLACES];
-    let mut versions = [0 as Version; Engine::PLACES];
-    let mut denies = [0u64; Engine::PLACES];
-    let mut rolesets = [0u64; Engine::ROLE_SETS];
-    let mut input = [0u8; BUFFER];
+    let mut engine = frames::fresh();
+    let mut input = Input::new();
     let mut output = [0u8; BUFFER];
     let mut source = rt.stdin();
-    let mut held = taking::nothing();
-    while 0 < held.turns {
-        let rest = taking::part(&input, held.from, held.filled);
-        let fed = frames::feed(
-            &mut roles,
-            &mut readers,
-            &mut forwards,
-            &mut mandates,
-            &mut users,
-            &mut version,
-            &mut opened,
-            &mut counts,
-            &mut roots,
-            &mut reaches,
-            &mut versions,
-            &mut denies,
-            &mut rolesets,
-            rest,
-            &mut output,
-        );
-        let shown = show(rt, &output, fed.written, held.lines);
-        held = taking::next(
+    while 0 < input.held.turns {
+        let fed = frames::feed(&mut engine, input.part(), &mut output);
+        let shown = show(rt, &output, fed.written, input.held.lines);
+        input.next(
             rt,
             &mut source,
-            &mut input,
-            held,
             fed.consumed,
             shown.lines,
             shown.is_open,
             b"linkage: lines after line ",
         );
     }
-    end(rt, held, &mut output);
+    end(rt, input.held, &mut output);
 }

@@ -6,11 +6,8 @@
 ghost use Rattle.io.specs.Counts.{IsPrefixLen};
 
 use frames::LONGEST;
-use model::{Engine, Version};
-use std::env::{Env, FillError};
 use std::fs::File;
-use std::io::{Error, ErrorKind, Print, Read};
-use std::str;
+use std::io::Print;
 
 // How many bytes of a file are held at a time.
 const PIECE: usize = 1000;
@@ -19,44 +16,24 @@ const PIECE: usize = 1000;
 // left of it is kept, and more is read behind it.
 const ROOM: usize = LONGEST + 45;
 
-// n, or the length where n is more.
-fn within(n: usize, bytes: &[u8]) -> usize
-    ensures { IsPrefixLen result bytes.now }
-{
-    if n < bytes.len() { n } else { bytes.len() }
-}
-
 // Writes the first n bytes. Where they can't be written there is nobody to tell.
 fn show(rt: HostRuntime, bytes: &[u8], n: usize) {
-    let end = within(n, bytes);
+    let end = streams::within(n, bytes);
     let _ = rt.write_all(&bytes[..end]);
 }
 
-// One read. One that fails reads nothing.
-fn read_some(file: &mut File, bytes: &mut [u8]) -> usize
-    ensures { IsPrefixLen result bytes.new }
-{
-    match file.read(bytes) {
-        Ok(n) => n,
-        Err(_) => 0,
-    }
-}
-
-// Reads behind the first n bytes of a buffer, and gives the place behind what it has read.
-fn read_behind(file: &mut File, input: &mut [u8], n: usize) -> usize
+// Reads behind the first n bytes of a buffer, and gives the place behind what is read. A read that fails
+// reads nothing.
+fn read_behind(rt: HostRuntime, file: &mut File, input: &mut [u8], n: usize) -> usize
     ensures { IsPrefixLen result input.new }
 {
-    let from = within(n, input);
-    let end = from + read_some(file, &mut input[from..]);
-    within(end, input)
+    let read = streams::read_behind(rt, file, input, n);
+    read.unwrap_or(streams::within(n, input))
 }
 
 // Whether nothing was read and no line was taken: the file is at its end.
 fn is_at_end(len: usize, filled: usize, taken: usize) -> bool {
-    if len < filled {
-        return false;
-    }
-    taken == 0
+    filled <= len && taken == 0
 }
 
 // Writes the answer to a last line that has no line feed, of which this many bytes are left.
@@ -69,42 +46,13 @@ fn end(rt: HostRuntime, len: usize) {
 
 // Runs the list in an open file, from a fresh engine.
 fn run(rt: HostRuntime, file: &mut File) {
-    let mut roles = [0u64; Engine::USERS];
-    let mut readers = [0u64; Engine::DATABASES];
-    let mut forwards = [0u64; Engine::DATABASES];
-    let mut mandates = [0u64; Engine::DATABASES];
-    let mut users = [0 as Version; Engine::USERS];
-    let mut version: Version = 0;
-    let mut opened = 0u64;
-    let mut counts = [0usize; Engine::ALL_SESSIONS];
-    let mut roots = [0usize; Engine::PLACES];
-    let mut reaches = [0u64; Engine::PLACES];
-    let mut versions = [0 as Version; Engine::PLACES];
-    let mut denies = [0u64; Engine::PLACES];
-    let mut rolesets = [0u64; Engine::ROLE_SETS];
+    let mut engine = frames::fresh();
     let mut input = [0u8; PIECE];
     let mut output = [0u8; ROOM];
     let mut len = 0usize;
-    let mut turns = u64::MAX;
-    while 0 < turns {
-        let filled = read_behind(file, &mut input, len);
-        let fed = frames::feed(
-            &mut roles,
-            &mut readers,
-            &mut forwards,
-            &mut mandates,
-            &mut users,
-            &mut version,
-            &mut opened,
-            &mut counts,
-            &mut roots,
-            &mut reaches,
-            &mut versions,
-            &mut denies,
-            &mut rolesets,
-            &input[..filled],
-            &mut output,
-        );
+    for _ in 0..u64::MAX {
+        let filled = read_behind(rt, file, &mut input, len);
+        let fed = frames::feed(&mut engine, &input[..filled], &mut output);
         show(rt, &output, fed.written);
         let taken = fed.consumed;
         let is_last = is_at_end(len, filled, taken);
@@ -112,29 +60,19 @@ fn run(rt: HostRuntime, file: &mut File) {
         if is_last {
             break;
         }
-        turns -= 1;
     }
     end(rt, len);
 }
 
-// Opens the file that a path names.
-fn open(rt: HostRuntime, path: &[u8]) -> Result<File, Error> {
-    match str::from_utf8(path) {
-        Ok(path) => File::open(&rt, path),
-        Err(_) => Err(Error::from(ErrorKind::InvalidFilename)),
-    }
-}
-
-// Runs the list that argument i names, and gives whether there is such an argument. One that is too long
-// for a path counts as empty, and names no file.
+// Runs the list that argument i names, and gives whether there is such an argument.
+// Kept beside its like in `traces_try`: one function for both would have to be public and to take a
+// closure, and no public function has a `requires`, which such a one needs.
 fn run_named(rt: HostRuntime, i: usize) -> bool {
     let mut path = io::buffer();
-    let length = match rt.arg(i, &mut path) {
-        Ok(length) => length,
-        Err(FillError::TooLong) => 0,
-        Err(FillError::NotPresent) => return false,
+    let Some(length) = streams::argument(rt, i, &mut path) else {
+        return false;
     };
-    match open(rt, &path[..length]) {
+    match streams::open(rt, &path[..length]) {
         Ok(mut file) => run(rt, &mut file),
         Err(failure) => {
             let mut text = io::buffer();

@@ -3,10 +3,7 @@
 // The line's length is cut to its buffer, so that safety rests on no contract of `trace`.
 #![tactic(auto)]
 
-ghost use Rattle.io.specs.Counts.{IsPrefixLen};
-
 use std::io::Error;
-use streams::Read;
 use trace::LIMIT;
 
 // One byte more than a recorded run may have: one that fills this is too long, and no more of it is read.
@@ -14,28 +11,6 @@ const ROOM: usize = LIMIT + 1;
 
 // How many bytes there is room for in the sentence about a failure: more than any has.
 const SENTENCE: usize = 128;
-
-// Reads until the input ends, the buffer is full, or the input can't be read.
-fn fill(rt: HostRuntime, file: &mut [u8]) -> Read
-    ensures { IsPrefixLen result.end file.new }
-{
-    let mut source = rt.stdin();
-    let mut end = 0usize;
-    while end < file.len() {
-        let read = streams::read_behind(rt, &mut source, file, end);
-        if read.failure.is_some() {
-            return read;
-        }
-        if read.end <= end {
-            return read;
-        }
-        end = read.end;
-    }
-    Read {
-        end: file.len(),
-        failure: None,
-    }
-}
 
 // Says that the input can't be read after these bytes of it.
 fn say(rt: HostRuntime, bytes: &[u8], failure: Error) {
@@ -67,13 +42,12 @@ fn show(rt: HostRuntime, bytes: &[u8]) {
 
 // Reads a recorded run into a buffer and goes over it.
 fn run(rt: HostRuntime, file: &mut [u8]) {
-    let read = fill(rt, file);
-    let end = read.end;
-    if let Some(failure) = read.failure {
-        say(rt, &file[..end], failure);
-        return;
+    let read = streams::fill(rt, &mut rt.stdin(), file);
+    let bytes = &file[..read.end];
+    match read.failure {
+        Some(failure) => say(rt, bytes, failure),
+        None => show(rt, bytes),
     }
-    show(rt, &file[..end]);
 }
 
 fn main(rt: HostRuntime) {

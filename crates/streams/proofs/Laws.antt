@@ -7,14 +7,15 @@ use mathlib.Core.List.{List, [], ◌∷◌, ◌++◌, append_assoc}
 use native.Mathlib.Numerals.{add-one}
 use native.Mathlib.Omega.{arith}
 use lib.Dec.{eqb}
-use lib.ListN.{length, get_or, take, drop, set, take-append-drop, length-append, length-take, length-drop}
-use lib.Seq.{drop-cons, drop-drop, drop-length, take-nil, take_at, drop_at, paste, paste-zero, paste-suc, length-paste}
+use lib.ListN.{length, get_or, take, drop, take-append-drop, length-append, length-take, length-drop}
+use lib.Seq.{drop-cons, drop-drop, take-nil, take_at, drop_at, paste}
 use borrow.Author.Tests.{eq-eqb, ne_eqb}
 use borrow.Rule.Slice.PartMut.{put_mid, take_put}
 use Rattle.io.specs.Digits.{last_digits, IsDigitCount}
 use Rattle.std.proofs.Common.{subst}
 use Rattle.std.proofs.BufReadLemmas.{drop-take_min}
-use Rattle.std.proofs.lemmas.List.{take_rest, take-append-le}
+use Rattle.std.proofs.lemmas.List.{nil_from_length, take_rest, take-append-le, take-take}
+use Rattle.std.specs.Prelude.{None, Some}
 use Rattle.std.specs.Io.KnownBytes.{Appends, Consumes}
 use Rattle.std.specs.declared.option.Option.{Option}
 use Rattle.streams.specs.Feeds.{feed, feeds, FeedsMean}
@@ -55,76 +56,39 @@ unfolding feeds
 feeds_append [] ys = omega arith
 feeds_append (b ∷ bs) ys = let e : feeds (bs ++ ys) ≡ feeds bs + feeds ys = feeds_append bs ys in omega arith
 
--- n line feeds are counted before place i
-pub record Counted (text : List ℕ) (n i : ℕ) : Type 0 where
-  pub few : i ≤ length text
-  pub holds : n + feeds (drop i text) ≡ feeds text
+-- n line feeds are counted, and this of the text is left
+pub record Counted (text : List ℕ) (n : ℕ) (rest : List ℕ) : Type 0 where
+  pub holds : n + feeds rest ≡ feeds text
 
-pub counted_start : (text : List ℕ) → Counted text 0 0
-counted_start text = record { few = omega arith; holds = omega arith }
+pub counted_start : (text : List ℕ) → Counted text 0 text
+counted_start text = record { holds = omega arith }
 
-module _ {text : List ℕ} {n i : ℕ} (g : Counted text n i) where
+module _ {text : List ℕ} {n i : ℕ} (g : Counted text n (drop i text)) (l : i < length text) where
   -- one byte more
-  here : i < length text → feeds (drop i text) ≡ feed (get_or text i 0) + feeds (drop (i + 1) text)
+  here : feeds (drop i text) ≡ feed (get_or text i 0) + feeds (drop (i + 1) text)
   unfolding feeds
-  here l = rw (add-one i, drop-cons text i 0 l)
+  here = rw (add-one i, drop-cons text i 0 l)
 
-  pub counted_byte : i < length text → Counted text (n + feed (get_or text i 0)) (i + 1)
-  counted_byte l = let e : feeds (drop i text) ≡ feed (get_or text i 0) + feeds (drop (i + 1) text) = here l in record { few = omega arith; holds = omega (arith, g.holds) }
+  pub counted_byte : Counted text (n + feed (get_or text i 0)) (drop (i + 1) text)
+  counted_byte = let e = here in record { holds = omega (arith, g.holds) }
 
-  pub byte_most : i < length text → n + feed (get_or text i 0) ≤ length text
-  byte_most l = let e : feeds (drop i text) ≡ feed (get_or text i 0) + feeds (drop (i + 1) text) = here l in omega (arith, g.holds, feeds_most text)
+  pub byte_most : n + feed (get_or text i 0) ≤ length text
+  byte_most = let e = here in omega (arith, g.holds, feeds_most text)
+
+module _ {text left : List ℕ} {n : ℕ} (g : Counted text n left) (block rest : List ℕ) (e : left ≡ block ++ rest) where
+  both : feeds left ≡ feeds block + feeds rest
+  both = ap feeds e ∙ feeds_append block rest
 
   -- a block more
-  block : (end : ℕ) → i ≤ end → feeds (drop i text) ≡ feeds (take (end - i) (drop i text)) + feeds (drop end text)
-  block end l =
-      let rest : List ℕ = drop i text in
-      let to : i + (end - i) ≡ end = omega arith in
-      ap feeds (sym (take-append-drop (end - i) rest)) ∙ feeds_append (take (end - i) rest) (drop (end - i) rest) ∙ ap (λ (r : List ℕ). feeds (take (end - i) rest) + feeds r) (drop-drop (end - i) i text ∙ ap (λ (k : ℕ). drop k text) to)
+  pub counted_block : Counted text (n + feeds block) rest
+  counted_block = record { holds = omega (arith, g.holds, both) }
 
-  pub counted_block : (end : ℕ) → i ≤ end → end ≤ length text → Counted text (n + feeds (take (end - i) (drop i text))) end
-  counted_block end l m = let e : feeds (drop i text) ≡ feeds (take (end - i) (drop i text)) + feeds (drop end text) = block end l in record { few = m; holds = omega (arith, g.holds) }
+  pub block_most : n + feeds block ≤ length text
+  block_most = omega (arith, g.holds, both, feeds_most text)
 
-  pub block_most : (end : ℕ) → i ≤ end → n + feeds (take (end - i) (drop i text)) ≤ length text
-  block_most end l = let e : feeds (drop i text) ≡ feeds (take (end - i) (drop i text)) + feeds (drop end text) = block end l in omega (arith, g.holds, feeds_most text)
-
-  pub counted_all : length text ≤ i → n ≡ feeds text
-  unfolding feeds
-  counted_all l =
-      let at : i ≡ length text = omega (arith, g.few) in
-      let e : feeds (drop i text) ≡ 0 = ap (λ (k : ℕ). feeds (drop k text)) at ∙ ap feeds (drop-length text) in
-      omega (arith, g.holds)
-
--- the first i bytes are put in, from the place on; at is the place behind them
-pub record Copied (old : List ℕ) (place : ℕ) (bytes new : List ℕ) (at i : ℕ) : Type 0 where
-  pub few : i ≤ length bytes
-  pub fits : at ≤ length old
-  pub moved : at ≡ min place (length old) + i
-  pub holds : new ≡ paste old (min place (length old)) bytes i
-
-pub copied_start : (old : List ℕ) (place : ℕ) (bytes : List ℕ) (at : ℕ) → at ≡ min place (length old) → Copied old place bytes old at 0
-copied_start old place bytes at e = record { few = omega arith; fits = omega arith; moved = omega arith; holds = paste-zero old (min place (length old)) bytes }
-
-module _ {old : List ℕ} {place : ℕ} {bytes new : List ℕ} {at i : ℕ} (g : Copied old place bytes new at i) where
-  pub copied_length : length new ≡ length old
-  copied_length = ap length g.holds ∙ length-paste old (min place (length old)) bytes i (omega (arith, g.fits, g.moved)) g.few
-
-  pub copied_more : at < length new → i < length bytes → Copied old place bytes (set new at (get_or bytes i 0)) (at + 1) (i + 1)
-  copied_more l m =
-      let e : length new ≡ length old = copied_length in
-      let room : min place (length old) + i < length old = omega (arith, g.moved) in
-      record { few = omega arith; fits = omega arith; moved = omega (arith, g.moved); holds = rw (g.holds, g.moved, add-one i) (paste-suc old (min place (length old)) bytes i 0 room m) }
-
-  put : at - min place (length old) ≡ i
-  put = omega (arith, g.moved)
-
-  pub copied_all : length bytes ≤ i → Placed old place bytes new at
-  copied_all l = record { place_behind = omega (arith, g.few, g.fits, g.moved); text = rw put g.holds }
-
-  pub copied_full : length new ≤ at → Placed old place bytes new at
-  copied_full l =
-      let e : length new ≡ length old = copied_length in
-      record { place_behind = omega (arith, g.few, g.fits, g.moved); text = rw put g.holds }
+pub counted_all : {text rest : List ℕ} {n : ℕ} → Counted text n rest → length rest ≡ 0 → n ≡ feeds text
+unfolding feeds
+counted_all {rest = rest} g e = let none : feeds rest ≡ 0 = ap feeds (nil_from_length rest e) in omega (arith, g.holds)
 
 -- the first elements of two lists that stand one behind the other
 take_append : (n : ℕ) (xs ys : List ℕ) → take n (xs ++ ys) ≡ take n xs ++ take (n - length xs) ys
@@ -224,3 +188,16 @@ got_in a b n at r end head part tail long e l f p =
     let all : List ℕ = head ++ (part ++ tail) in
     let few : r ≤ length all - at = omega (arith, l, long, length-append head (part ++ tail), length-append part tail) in
     subst (Consumes a b) (sym (between_places n at r end all e few f ∙ ap (take r) (drop_at head (part ++ tail) at long) ∙ take-append-le r part tail l)) p
+
+consumes_on : (a b c : Option (List ℕ)) (xs ys : List ℕ) → Consumes a b xs → Consumes b c ys → Consumes a c (xs ++ ys)
+consumes_on None b c xs ys p q = tt
+consumes_on (Some first) None c xs ys p q = absurd p
+consumes_on (Some first) (Some second) None xs ys p q = absurd q
+consumes_on (Some first) (Some second) (Some third) xs ys p q = p ∙ ap (λ (l : List ℕ). xs ++ l) q ∙ sym (append_assoc xs ys third)
+
+-- what is read behind bytes that stay stands behind them
+pub read_on : (a b c : Option (List ℕ)) (n m : ℕ) (old new : List ℕ) → n ≤ m → take n new ≡ take n old → Consumes a b (take n old) → Consumes b c (drop n (take m new)) → Consumes a c (take m new)
+read_on a b c n m old new l same p q =
+    let more : List ℕ = drop n (take m new) in
+    let front : take n old ≡ take n (take m new) = sym same ∙ sym (take-take n m new l) in
+    subst (Consumes a c) (ap (λ (xs : List ℕ). xs ++ more) front ∙ take-append-drop n (take m new)) (consumes_on a b c (take n old) more p q)

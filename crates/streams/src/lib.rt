@@ -7,16 +7,21 @@
 // reader and a writer whose bytes are known, it is promised that those are the ones in the buffers.
 #![tactic(auto)]
 
-ghost use Rattle.std.specs.Prelude.{◌+◌, ◌≤◌, ◌<◌, min, ◌≡◌, length, take, drop, None};
-ghost use Rattle.std.specs.Io.KnownBytes.{Appends, Consumes, IsAtEnd};
+ghost use Rattle.std.specs.Prelude.{◌+◌, ◌≤◌, ◌<◌, min, ◌≡◌, length, take, drop, None, IfOk, IfSome, IsErrAnd, MatchResult};
+ghost use Rattle.std.specs.Str.{IsUtf8};
+ghost use Rattle.std.specs.IoError.{error_kind};
+ghost use Rattle.std.specs.Io.{ReadsAtMost};
+ghost use Rattle.std.specs.Io.KnownBytes.{Appends, Consumes, Keeps, IsAtEnd, ReadConsumes};
 ghost use Rattle.io.specs.Counts.{IsPrefixLen};
 ghost use Rattle.streams.specs.Feeds.{feeds};
 ghost use Rattle.streams.specs.Feeds.{feed as Feeds·feed};
 ghost use Rattle.streams.specs.Said.{Begins, Placed, Said};
 
-use std::io::{Error, ErrorKind, Print};
+use std::env::{Env, FillError};
+use std::fs::File;
+use std::io::{Cursor, Error, ErrorKind, Print, Write};
 use std::time::Duration;
-use std::{fmt, thread};
+use std::{str, thread};
 
 // How many bytes are counted at once: so few that the count fits a byte, which lets the compiler count
 // many of them in one step.
@@ -25,26 +30,12 @@ const BLOCK: usize = 128;
 // How many bytes of a reason there is room for: more than any has, with its number.
 const REASON: usize = 128;
 
-// The place that the input has come to in its buffer, and why it could not be read, where it couldn't. At
-// the end of the input the place is where it was.
+// The place that reads or writes have come to in their bytes, and why they came no further, where they
+// couldn't.
 #[derive(Clone, Copy)]
-pub struct Read {
+pub struct Progress {
     pub end: usize,
     pub failure: Option<Error>,
-}
-
-// The place that the output has come to, and why it could not be written, where it couldn't.
-#[derive(Clone, Copy)]
-pub struct Written {
-    pub end: usize,
-    pub failure: Option<Error>,
-}
-
-// The words for a reason, at the start of their bytes.
-#[derive(Drop)]
-struct Reason {
-    bytes: [u8; REASON],
-    end: usize,
 }
 
 // n, or the length where n is more.
@@ -52,132 +43,128 @@ pub fn within(n: usize, bytes: &[u8]) -> usize
     ensures prefix_len { IsPrefixLen result bytes.now }
     ensures value { result ≡ min n (length bytes.now) }
 {
-    if n < bytes.len() { n } else { bytes.len() }
+    n.min(bytes.len())
 }
 
-// Sleeps for a millisecond.
-fn pause(rt: HostRuntime) {
-    thread::sleep(&rt, Duration::from_millis(1));
-}
-
-// Whether the call that failed so is to be made again. Before one that would have to wait it sleeps,
-// since the descriptor does not.
-fn is_passing(rt: HostRuntime, failure: Error) -> bool {
+// Hands on why a call failed, but where the call is to be made again. Before one that would have to wait it
+// sleeps for a millisecond, since the descriptor does not.
+fn wait_out(rt: HostRuntime, failure: Error) -> Result<(), Error> {
     match failure.kind() {
         ErrorKind::WouldBlock => {
-            pause(rt);
-            true
+            thread::sleep(&rt, Duration::from_millis(1));
+            Ok(())
         }
-        ErrorKind::Interrupted => true,
-        _ => false,
+        ErrorKind::Interrupted => Ok(()),
+        _ => Err(failure),
     }
 }
 
 // One read, made again as long as that may help.
-fn read_some<R: std::io::Read>(rt: HostRuntime, source: &mut R, bytes: &mut [u8]) -> Read
-    ensures prefix_len { IsPrefixLen result.end bytes.new }
-    ensures consumed { Consumes (R.remaining source.old) (R.remaining source.new) (take result.end bytes.new) }
-    ensures at_end { result.failure ≡ None → result.end ≡ 0 → 0 < length bytes.old → IsAtEnd (R.remaining source.new) }
+fn read_some<R: std::io::Read>(
+    rt: HostRuntime,
+    source: &mut R,
+    bytes: &mut [u8],
+) -> Result<usize, Error>
+    ensures bound { ReadsAtMost result bytes.new }
+    ensures bytes { ReadConsumes (R.remaining source.old) (R.remaining source.new) result bytes.new }
 {
     for _ in 0..u64::MAX {
         match source.read(bytes) {
-            Ok(end) => return Read { end, failure: None },
-            Err(failure) => {
-                if !is_passing(rt, failure) {
-                    return Read {
-                        end: 0,
-                        failure: Some(failure),
-                    };
-                }
-            }
+            Ok(n) => return Ok(n),
+            Err(failure) => wait_out(rt, failure)?,
         }
     }
-    Read {
-        end: 0,
-        failure: Some(Error::from(ErrorKind::Interrupted)),
-    }
+    Err(Error::from(ErrorKind::Interrupted))
 }
 
-// Reads from a source behind the first n bytes of a buffer, which stay.
+// Reads from a source behind the first n bytes of a buffer, which stay, and gives the place behind what is
+// read. At the end of the input that is the place where it was. A read that failed has read nothing.
 pub fn read_behind<R: std::io::Read>(
     rt: HostRuntime,
     source: &mut R,
     input: &mut [u8],
     n: usize,
-) -> Read
-    ensures prefix_len { IsPrefixLen result.end input.new }
-    ensures input_bound { min n (length input.old) ≤ result.end }
+) -> Result<usize, Error>
+    ensures prefix_len { IfOk result (λ end. IsPrefixLen end input.new) }
+    ensures input_bound { IfOk result (λ end. min n (length input.old) ≤ end) }
     ensures input_unchanged { take n input.new ≡ take n input.old }
-    ensures consumed { Consumes (R.remaining source.old) (R.remaining source.new) (drop n (take result.end input.new)) }
-    ensures at_end { result.failure ≡ None → result.end ≤ n → n < length input.old → IsAtEnd (R.remaining source.new) }
+    ensures consumed { MatchResult result (λ end. Consumes (R.remaining source.old) (R.remaining source.new) (drop n (take end input.new))) (λ _. Keeps (R.remaining source.old) (R.remaining source.new)) }
+    ensures at_end { IfOk result (λ end. end ≤ n → n < length input.old → IsAtEnd (R.remaining source.new)) }
 {
     let from = within(n, input);
-    let got = read_some(rt, source, &mut input[from..]);
-    let end = from + got.end;
-    Read {
-        end: within(end, input),
-        failure: got.failure,
-    }
+    let got = read_some(rt, source, &mut input[from..])?;
+    Ok(within(from + got, input))
 }
 
-// One write, from a place on. A write that takes nothing is the last, since it would be made for ever.
+// Reads from a source until the bytes are full, the input ends, or it can't be read.
+pub fn fill<R: std::io::Read>(rt: HostRuntime, source: &mut R, bytes: &mut [u8]) -> Progress
+    ensures prefix_len { IsPrefixLen result.end bytes.new }
+    ensures consumed { Consumes (R.remaining source.old) (R.remaining source.new) (take result.end bytes.new) }
+    ensures at_end { result.failure ≡ None → result.end < length bytes.old → IsAtEnd (R.remaining source.new) }
+{
+    let mut end = 0usize;
+    while end < bytes.len() {
+        match read_behind(rt, source, bytes, end) {
+            Ok(place) if end < place => end = place,
+            Ok(_) => return Progress { end, failure: None },
+            Err(failure) => {
+                return Progress {
+                    end,
+                    failure: Some(failure),
+                };
+            }
+        }
+    }
+    Progress { end, failure: None }
+}
+
+// One write, from a place on, and the place behind what is written. A write that takes nothing is the
+// last, since it would be made for ever.
 fn write_some<W: std::io::Write>(
     rt: HostRuntime,
     output: &mut W,
     bytes: &[u8],
     place: usize,
-) -> Written
-    ensures prefix_len { IsPrefixLen result.end bytes.now }
-    ensures grows { min place (length bytes.now) ≤ result.end }
-    ensures appended { Appends (W.contents output.old) (W.contents output.new) (drop place (take result.end bytes.now)) }
+) -> Result<usize, Error>
+    ensures prefix_len { IfOk result (λ end. IsPrefixLen end bytes.now) }
+    ensures grows { IfOk result (λ end. min place (length bytes.now) ≤ end) }
+    ensures appended { MatchResult result (λ end. Appends (W.contents output.old) (W.contents output.new) (drop place (take end bytes.now))) (λ _. Keeps (W.contents output.old) (W.contents output.new)) }
 {
     let from = within(place, bytes);
     match output.write(&bytes[from..]) {
-        Ok(0) => Written {
-            end: from,
-            failure: Some(Error::from(ErrorKind::WriteZero)),
-        },
-        Ok(n) => Written {
-            end: within(from + n, bytes),
-            failure: None,
-        },
-        Err(failure) => Written {
-            end: from,
-            failure: if is_passing(rt, failure) {
-                None
-            } else {
-                Some(failure)
-            },
-        },
+        Ok(0) => Err(Error::from(ErrorKind::WriteZero)),
+        Ok(n) => Ok(within(from + n, bytes)),
+        Err(failure) => {
+            wait_out(rt, failure)?;
+            Ok(from)
+        }
     }
 }
 
 // Writes all bytes, in as many writes as it takes, and gives how many were written: fewer than all
 // only where the output can't be written, and then why.
-pub fn write_all<W: std::io::Write>(rt: HostRuntime, output: &mut W, bytes: &[u8]) -> Written
+pub fn write_all<W: std::io::Write>(rt: HostRuntime, output: &mut W, bytes: &[u8]) -> Progress
     ensures prefix_len { IsPrefixLen result.end bytes.now }
     ensures appended { Appends (W.contents output.old) (W.contents output.new) (take result.end bytes.now) }
     ensures whole { result.failure ≡ None → result.end ≡ length bytes.now }
 {
-    let mut from = 0usize;
+    let mut end = 0usize;
     for _ in 0..u64::MAX {
-        if bytes.len() <= from {
+        if end == bytes.len() {
             break;
         }
-        let put = write_some(rt, output, bytes, from);
-        if put.failure.is_some() {
-            return put;
+        match write_some(rt, output, bytes, end) {
+            Ok(place) => end = place,
+            Err(failure) => {
+                return Progress {
+                    end,
+                    failure: Some(failure),
+                };
+            }
         }
-        from = put.end;
     }
-    Written {
-        end: within(from, bytes),
-        failure: if from < bytes.len() {
-            Some(Error::from(ErrorKind::Interrupted))
-        } else {
-            None
-        },
-    }
+    let failure = (end < bytes.len()).then_some(Error::from(ErrorKind::Interrupted));
+    Progress { end, failure }
 }
 
 // 1 for a line feed.
@@ -185,7 +172,7 @@ pub fn write_all<W: std::io::Write>(rt: HostRuntime, output: &mut W, bytes: &[u8
 fn feed(byte: u8) -> u8
     ensures { result ≡ Feeds·feed byte }
 {
-    if byte == 10 { 1 } else { 0 }
+    u8::from(byte == b'\n')
 }
 
 // How many line feeds a block has.
@@ -194,30 +181,10 @@ fn feeds_in(block: &[u8]) -> u8
     ensures { result ≡ feeds block.now }
 {
     let mut n = 0u8;
-    let mut i = 0usize;
-    while i < block.len() {
-        n += feed(block[i]);
-        i += 1;
+    for byte in block {
+        n += feed(*byte);
     }
     n
-}
-
-fn wide(n: u8) -> usize
-    ensures { result ≡ n }
-{
-    n as usize
-}
-
-// The end of the block that begins at a place.
-fn block_end(from: usize, len: usize) -> usize
-    requires { from ≤ len }
-    ensures { result ≡ min (from + 128) len }
-{
-    if len - from < BLOCK {
-        len
-    } else {
-        from + BLOCK
-    }
 }
 
 // How many whole lines a text has: its line feeds.
@@ -225,11 +192,8 @@ pub fn lines(text: &[u8]) -> usize
     ensures { result ≡ feeds text.now }
 {
     let mut n = 0usize;
-    let mut from = 0usize;
-    while from < text.len() {
-        let end = block_end(from, text.len());
-        n += wide(feeds_in(&text[from..end]));
-        from = end;
+    for block in text.chunks(BLOCK) {
+        n += usize::from(feeds_in(block));
     }
     n
 }
@@ -238,11 +202,7 @@ pub fn lines(text: &[u8]) -> usize
 pub fn lines_and(n: u64, text: &[u8]) -> u64
     ensures { result ≡ min (n + feeds text.now) 18446744073709551615 }
 {
-    let more = lines(text) as u64;
-    if u64::MAX - n < more {
-        return u64::MAX;
-    }
-    n + more
+    n.saturating_add(lines(text) as u64)
 }
 
 // Puts bytes into a text from a place on, as many as it has room for, and gives the place behind them.
@@ -250,24 +210,10 @@ fn copy_to(text: &mut [u8], place: usize, bytes: &[u8]) -> usize
     ensures prefix_len { IsPrefixLen result text.new }
     ensures placed { Placed text.old place bytes.now text.new result }
 {
-    let mut at = within(place, text);
-    let mut i = 0usize;
-    while i < bytes.len() {
-        if text.len() <= at {
-            break;
-        }
-        text[at] = bytes[i];
-        at += 1;
-        i += 1;
-    }
-    at
-}
-
-impl fmt::Write for Reason {
-    fn write_str(&mut self, words: &str) -> fmt::Result {
-        self.end = copy_to(&mut self.bytes, self.end, words.as_bytes());
-        Ok(())
-    }
+    let from = within(place, text);
+    let end = within(from.saturating_add(bytes.len()), text);
+    text[from..end].copy_from_slice(&bytes[..end - from]);
+    end
 }
 
 // How many of a reason's bytes are its words, without the number in parentheses that std writes behind
@@ -275,36 +221,31 @@ impl fmt::Write for Reason {
 fn words_end(failure: Error, bytes: &[u8]) -> usize
     ensures { IsPrefixLen result bytes.now }
 {
-    let mut end = bytes.len();
     if failure.raw_os_error().is_none() {
-        return end;
+        return bytes.len();
     }
-    while 0 < end {
-        end -= 1;
-        if bytes[end] == b'(' {
-            return end.saturating_sub(1);
-        }
+    match bytes.iter().rposition(|byte| *byte == b'(') {
+        Some(place) => place.saturating_sub(1),
+        None => bytes.len(),
     }
-    bytes.len()
 }
 
 // Says in a line on standard error what failed, and the reason. A pipe that its reader has closed is no
 // failure: whoever reads the first lines only has what was asked for.
 fn say(rt: HostRuntime, what: &[u8], failure: Error) {
-    if let ErrorKind::BrokenPipe = failure.kind() {
+    if failure.kind() == ErrorKind::BrokenPipe {
         return;
     }
-    let mut reason = Reason {
-        bytes: [0u8; REASON],
-        end: 0,
-    };
-    let _ = fmt::Write::write(&mut reason, failure);
-    let filled = within(reason.end, &reason.bytes);
-    let words = words_end(failure, &reason.bytes[..filled]);
+    let mut reason = Cursor::new([0u8; REASON]);
+    let _ = write!(reason, "{failure}");
+    let end = reason.position() as usize;
+    let bytes = reason.into_inner();
+    let filled = within(end, &bytes);
+    let words = words_end(failure, &bytes[..filled]);
     let errors = rt.stderr();
     let _ = errors.write_all(what);
     let _ = errors.write_all(b": ");
-    let _ = errors.write_all(&reason.bytes[..words]);
+    let _ = errors.write_all(&bytes[..words]);
     let _ = errors.write_all(b"\n");
 }
 
@@ -346,7 +287,7 @@ pub fn write_or_say<W: std::io::Write>(
     output: &mut W,
     bytes: &[u8],
     what: &[u8],
-) -> Written
+) -> Progress
     ensures prefix_len { IsPrefixLen result.end bytes.now }
     ensures appended { Appends (W.contents output.old) (W.contents output.new) (take result.end bytes.now) }
     ensures whole { result.failure ≡ None → result.end ≡ length bytes.now }
@@ -356,4 +297,26 @@ pub fn write_or_say<W: std::io::Write>(
         say(rt, what, failure);
     }
     written
+}
+
+// Puts argument i at the start of a path that is lent, and gives how many bytes it has there, or nothing
+// where there is no such argument. One that is too long for the path counts as empty, and names no file.
+pub fn argument(rt: HostRuntime, i: usize, path: &mut [u8]) -> Option<usize>
+    ensures { IfSome result (λ end. IsPrefixLen end path.new) }
+{
+    match rt.arg(i, path) {
+        Ok(end) => Some(end),
+        Err(FillError::TooLong) => Some(0),
+        Err(FillError::NotPresent) => None,
+    }
+}
+
+// Opens the file that a path names. One that is no UTF-8 text names none.
+pub fn open(rt: HostRuntime, path: &[u8]) -> Result<File, Error>
+    ensures { ¬ (IsUtf8 path.now) → IsErrAnd result (λ failure. error_kind failure ≡ ErrorKind.InvalidFilename) }
+{
+    match str::from_utf8(path) {
+        Ok(path) => File::open(&rt, path),
+        Err(_) => Err(Error::from(ErrorKind::InvalidFilename)),
+    }
 }

@@ -1,14 +1,12 @@
 -- The part of a buffer that is fed, and what is held after a turn.
 -- Assumes nothing.
-use Prim.Native.Nat.{ℕ, zero, suc, ◌+◌, ◌-◌, ◌≤◌, ◌<◌, min}
+use Prim.Native.Nat.{ℕ, zero, suc, ◌+◌, ◌-◌, ◌≤◌, min}
 use mathlib.Core.Path.{◌≡◌, refl, sym, ap, ◌∙◌}
 use mathlib.Core.Bool.{Bool, true, false, true≢false}
 use mathlib.Core.List.{List, [], ◌∷◌, ◌++◌}
 use native.Mathlib.Omega.{arith}
-use lib.Dec.{ltb}
 use lib.ListN.{length, take, drop, length-append, length-take, length-drop}
 use lib.Seq.{take_all, take_at, take-nil}
-use borrow.Author.Tests.{le-leb, lt-leb}
 use Rattle.protocol.specs.Run.{kept_of}
 use Rattle.pieces.specs.Pieces.{between}
 use Rattle.taking.specs.declared.Held.{Held}
@@ -32,16 +30,6 @@ part_is buffer place filled end from p q =
     let at : from ≡ min place (min filled (length buffer)) = omega (arith, p, q, n) in
     let all : length (drop from (take end buffer)) ≤ length (take end buffer) - from = rw length-drop (omega arith) in
     take_all (length (take end buffer) - from) (drop from (take end buffer)) all ∙ drop_take from end buffer ∙ rw (p, at)
-
--- ---- whether something is left
-
-pub none_taken : (before from filled : ℕ) → from ≤ before → false ≡ under_way before from filled
-unfolding under_way
-none_taken before from filled l = rw (le-leb from before l)
-
-pub some_taken : (before from filled : ℕ) → before < from → ltb from filled ≡ under_way before from filled
-unfolding under_way
-some_taken before from filled l = rw (lt-leb from before l)
 
 -- ---- what is held after a turn
 

@@ -1,5 +1,5 @@
-// An input in pieces of any size, for the programs that take frames. A program owns the buffer and feeds
-// what `part` gives of it; `next` says what is to be fed then, and reads more where that is needed.
+// An input in pieces of any size, for the programs that take frames. A program feeds what `part` gives of
+// it; `next` says what is to be fed then, and reads more where that is needed.
 //
 // What a file, a pipe or a terminal gives no contract can say. What is promised is how one turn follows
 // another: the rest of what was read is fed, or what has to be kept of it stands before what is read behind
@@ -31,125 +31,127 @@ pub struct Held {
     pub turns: u64,
 }
 
-// Before the first read.
-pub fn nothing() -> Held
-    ensures { result ≡ start }
-{
-    Held {
-        from: 0,
-        filled: 0,
-        lines: 0,
-        is_open: true,
-        turns: u64::MAX,
-    }
-}
-
-// What is filled of a buffer, from a place on.
-pub fn part<'a>(input: &'a [u8; BUFFER], place: usize, filled: usize) -> &'a [u8]
-    ensures { result.now ≡ between input.now place filled }
-{
-    let bytes: &[u8] = input;
-    let end = streams::within(filled, bytes);
-    let whole = &bytes[..end];
-    let from = streams::within(place, whole);
-    &whole[from..]
+// An input: the bytes that are read, and what is held of them.
+#[derive(Drop)]
+pub struct Input {
+    pub bytes: [u8; BUFFER],
+    pub held: Held,
 }
 
 // The place n bytes behind another, or the buffer's end.
 fn behind(place: usize, n: usize) -> usize
     ensures { result ≡ place_behind place n }
 {
-    if BUFFER <= place {
-        return BUFFER;
-    }
-    if BUFFER - place <= n {
-        return BUFFER;
-    }
-    place + n
+    place.saturating_add(n).min(BUFFER)
 }
 
 // Whether something was taken and something is left.
+#[tactic(auto, unfolding(crate::specs::Taking::under_way))]
 fn is_under_way(before: usize, from: usize, filled: usize) -> bool
     ensures { result ≡ under_way before from filled }
 {
-    if from <= before {
-        return false;
-    }
-    from < filled
+    before < from && from < filled
 }
 
-// One turn less.
-fn fewer(turns: u64) -> u64
-    ensures { result ≡ turns - 1 }
-{
-    if turns == 0 { 0 } else { turns - 1 }
-}
-
-// What is to be fed after more is read behind the first bytes of the buffer. Where the input can't be
-// read it says so, with the program's words before the number of the line: the input has not ended then,
-// and its unfinished line stays unanswered.
-fn more<R: Read>(
-    rt: HostRuntime,
-    source: &mut R,
-    input: &mut [u8; BUFFER],
-    len: usize,
-    lines: u64,
-    turns: u64,
-    words: &[u8],
-) -> Held
-    ensures held { More input.old input.new len lines turns result }
-    ensures consumed { Consumes (R.remaining source.old) (R.remaining source.new) (drop len (take result.filled input.new)) }
-{
-    let read = streams::read_behind(rt, source, input, len);
-    if let Some(failure) = read.failure {
-        let mut text = [0u8; SENTENCE];
-        streams::say_after(rt, &mut text, words, lines, b" were not read", failure);
+impl Input {
+    // Before the first read.
+    pub fn new() -> Input
+        ensures { result.held ≡ start }
+    {
+        Input {
+            bytes: [0; BUFFER],
+            held: Held {
+                from: 0,
+                filled: 0,
+                lines: 0,
+                is_open: true,
+                turns: u64::MAX,
+            },
+        }
     }
-    Held {
-        from: 0,
-        filled: read.end,
-        lines,
-        is_open: read.failure.is_none(),
-        turns: if read.end <= len { 0 } else { turns },
-    }
-}
 
-// What is to be fed after this many bytes were taken and this many lines are answered: the rest, where
-// lines may be left in it; else more is read behind what is left. Nothing where the output is closed.
-// The words begin the sentence about input that can't be read.
-pub fn next<R: Read>(
-    rt: HostRuntime,
-    source: &mut R,
-    input: &mut [u8; BUFFER],
-    held: Held,
-    consumed: usize,
-    lines: u64,
-    is_open: bool,
-    words: &[u8],
-) -> Held
-    ensures held { Next input.old input.new held consumed lines is_open result }
-    ensures source { Taken (R.remaining source.old) (R.remaining source.new) input.old input.new held consumed is_open result }
-{
-    let from = behind(held.from, consumed);
-    if !is_open {
-        return Held {
-            from,
-            filled: held.filled,
+    // What is to be fed.
+    pub fn part(&self) -> &[u8]
+        ensures { result.now ≡ between self.now.bytes self.now.held.from self.now.held.filled }
+    {
+        let bytes: &[u8] = &self.bytes;
+        let end = streams::within(self.held.filled, bytes);
+        let filled = &bytes[..end];
+        let from = streams::within(self.held.from, filled);
+        &filled[from..]
+    }
+
+    // What is to be fed after more is read behind the first bytes of the buffer. Where the input can't be
+    // read it says so, with the program's words before the number of the line: the input has not ended then,
+    // and its unfinished line stays unanswered.
+    fn more<R: Read>(
+        &mut self,
+        rt: HostRuntime,
+        source: &mut R,
+        len: usize,
+        lines: u64,
+        turns: u64,
+        words: &[u8],
+    )
+        ensures held { More self.old.bytes self.new.bytes len lines turns self.new.held }
+        ensures consumed { Consumes (R.remaining source.old) (R.remaining source.new) (drop len (take self.new.held.filled self.new.bytes)) }
+    {
+        let read = streams::read_behind(rt, source, &mut self.bytes, len);
+        if let Err(failure) = read {
+            let mut text = [0u8; SENTENCE];
+            streams::say_after(rt, &mut text, words, lines, b" were not read", failure);
+        }
+        let filled = read.unwrap_or(streams::within(len, &self.bytes));
+        self.held = Held {
+            from: 0,
+            filled,
             lines,
-            is_open: false,
-            turns: 0,
+            is_open: read.is_ok(),
+            turns: if filled <= len { 0 } else { turns },
         };
     }
-    let turns = fewer(held.turns);
-    if is_under_way(held.from, from, held.filled) {
-        return Held {
-            from,
-            filled: held.filled,
-            lines,
-            is_open: true,
-            turns,
-        };
+
+    // What is to be fed after this many bytes were taken and this many lines are answered: the rest, where
+    // lines may be left in it; else more is read behind what is left. Nothing where the output is closed.
+    // The words begin the sentence about input that can't be read.
+    // Not inlined: a program's loop then keeps the code that it had, and a list of reads its time.
+    #[inline(never)]
+    pub fn next<R: Read>(
+        &mut self,
+        rt: HostRuntime,
+        source: &mut R,
+        consumed: usize,
+        lines: u64,
+        is_open: bool,
+        words: &[u8],
+    )
+        ensures held { Next self.old.bytes self.new.bytes self.old.held consumed lines is_open self.new.held }
+        ensures source { Taken (R.remaining source.old) (R.remaining source.new) self.old.bytes self.new.bytes self.old.held consumed is_open self.new.held }
+    {
+        let held = self.held;
+        let from = behind(held.from, consumed);
+        if !is_open {
+            self.held = Held {
+                from,
+                lines,
+                is_open: false,
+                turns: 0,
+                ..held
+            };
+            return;
+        }
+        let turns = held.turns.saturating_sub(1);
+        if is_under_way(held.from, from, held.filled) {
+            self.held = Held {
+                from,
+                lines,
+                is_open: true,
+                turns,
+                ..held
+            };
+            return;
+        }
+        let len = pieces::keep(&mut self.bytes, from, held.filled);
+        self.more(rt, source, len, lines, turns, words);
     }
-    let len = pieces::keep(input, from, held.filled);
-    more(rt, source, input, len, lines, turns, words)
 }

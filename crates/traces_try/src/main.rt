@@ -3,12 +3,7 @@
 // answer.
 #![tactic(auto)]
 
-ghost use Rattle.io.specs.Counts.{IsPrefixLen};
-
-use std::env::{Env, FillError};
-use std::fs::File;
-use std::io::{Error, ErrorKind, Print, Read};
-use std::str;
+use std::io::Print;
 use trace::LIMIT;
 
 // How many bytes the longest of them has.
@@ -22,42 +17,18 @@ fn show(rt: HostRuntime, run: &[u8]) {
     let _ = rt.write_all(&text[..end]);
 }
 
-// Opens the file that a path names.
-fn open(rt: HostRuntime, path: &[u8]) -> Result<File, Error> {
-    match str::from_utf8(path) {
-        Ok(path) => File::open(&rt, path),
-        Err(_) => Err(Error::from(ErrorKind::InvalidFilename)),
-    }
-}
-
-// Reads until the buffer is full, the file ends or can't be read.
-fn read_full(source: &mut File, file: &mut [u8]) -> usize
-    ensures { IsPrefixLen result file.new }
-{
-    let mut end = 0usize;
-    while end < file.len() {
-        match source.read(&mut file[end..]) {
-            Ok(0) => break,
-            Ok(n) => end += n,
-            Err(_) => break,
-        }
-    }
-    end
-}
-
-// Tries the run in the file that argument i names, and gives whether there is such an argument. One that
-// is too long for a path counts as empty, and names no file.
+// Tries the run in the file that argument i names, and gives whether there is such an argument.
+// Kept beside its like in `lists_try`: one function for both would have to be public and to take a
+// closure, and no public function has a `requires`, which such a one needs.
 fn try_named(rt: HostRuntime, file: &mut [u8], i: usize) -> bool {
     let mut path = io::buffer();
-    let length = match rt.arg(i, &mut path) {
-        Ok(length) => length,
-        Err(FillError::TooLong) => 0,
-        Err(FillError::NotPresent) => return false,
+    let Some(length) = streams::argument(rt, i, &mut path) else {
+        return false;
     };
-    match open(rt, &path[..length]) {
+    match streams::open(rt, &path[..length]) {
         Ok(mut source) => {
-            let end = read_full(&mut source, file);
-            show(rt, &file[..end]);
+            let read = streams::fill(rt, &mut source, file);
+            show(rt, &file[..read.end]);
         }
         Err(failure) => {
             let mut text = io::buffer();
@@ -79,27 +50,24 @@ fn try_stored(rt: HostRuntime, file: &mut [u8]) {
 // What stands at a place of a run whose frames are all empty: a line feed, and then 01 and a line feed.
 fn byte_at(place: usize) -> u8 {
     match place % 4 {
-        1 => 48,
-        2 => 49,
-        _ => 10,
+        1 => b'0',
+        2 => b'1',
+        _ => b'\n',
     }
 }
 
 // Puts such a run into a buffer.
 fn make(file: &mut [u8]) {
-    let mut i = 0usize;
-    while i < file.len() {
-        file[i] = byte_at(i);
-        i += 1;
+    for (place, byte) in file.iter_mut().enumerate() {
+        *byte = byte_at(place);
     }
 }
 
 // Puts another digit into the first answer.
 fn spoil(file: &mut [u8]) {
-    if file.len() <= 1 {
-        return;
+    if let Some(digit) = file.get_mut(1) {
+        *digit = b'1';
     }
-    file[1] = 49;
 }
 
 // Tries the first n bytes.

@@ -1,22 +1,15 @@
 use native.Mathlib.Omega.{arith}
-use lib.ListN.{length-take}
-use Rattle.streams.proofs.Laws.{counted_start, counted_block, block_most, counted_all}
+use Rattle.std.proofs.Common.{◌∙◌}
+use Rattle.streams.proofs.Laws.{counted_block, block_most, counted_all}
 use Rattle.streams.proofs.lines.Goals as goal
 
-pub loop-from-init : goal.loop-from-init
-loop-from-init c = counted_start _
-
-pub feeds_in-requires : goal.feeds_in-requires
-feeds_in-requires c = let e = c.block_end-end.ensures in rw length-take (omega arith)
-
 pub overflow_add-n : goal.overflow_add-n
-overflow_add-n c = record { fits = omega (arith, c.wide-n.ensures, c.feeds_in.ensures, block_most c.loop-from.invariant c.block_end-end.result (omega (arith, c.block_end-end.ensures))) }
+overflow_add-n c = record { fits = omega (arith, block_most c.loop-block.invariant.0 c.in-Some.block.now c.next.new.self.rest.now c.in-Some.ensures.steps.1.0, c.feeds_in.ensures, c.from-n.ensures) }
 
-pub loop-from-smaller : goal.loop-from-smaller
-loop-from-smaller c = omega (arith, c.block_end-end.ensures)
-
-pub loop-from-preserved : goal.loop-from-preserved
-loop-from-preserved c = rw (c.wide-n.ensures, c.feeds_in.ensures) (counted_block c.loop-from.invariant _ (omega (arith, c.block_end-end.ensures)) (omega (arith, c.block_end-end.ensures)))
+pub loop-block-preserved : goal.loop-block-preserved
+loop-block-preserved c =
+    let step = c.in-Some.ensures.steps in
+    (rw (c.from-n.ensures, c.feeds_in.ensures) (counted_block c.loop-block.invariant.0 _ _ step.1.0), step.0 ∙ c.loop-block.invariant.1)
 
 pub returns : goal.returns
-returns c = counted_all c.loop-from.invariant c.loop-from-test.false
+returns c = counted_all c.loop-block.invariant.0 c.in-None.ensures.steps.1.0

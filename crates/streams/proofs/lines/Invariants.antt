@@ -1,11 +1,8 @@
--- The line feeds before a place are counted, block by block.
-use Prim.Native.Nat.{◌-◌}
-use lib.ListN.{length}
+-- The line feeds of the blocks so far are counted, and the rest is cut into blocks as short.
+use Rattle.std.proofs.Common.{◌≡◌}
+use Rattle.std.specs.Slice.Iter.{chunks_rest, chunks_size}
 use Rattle.streams.proofs.Laws.{Counted}
 use Rattle.streams.proofs.lines.Given as goal
 
-abbrev pub invariant-loop-from : goal.invariant-loop-from
-invariant-loop-from l = Counted l.text l.n l.from
-
-abbrev pub decreases-loop-from : goal.decreases-loop-from
-decreases-loop-from l = length l.text - l.from
+abbrev pub invariant-loop-block : goal.invariant-loop-block
+invariant-loop-block l = Counted l.text l.n (chunks_rest l.block-iterator) × (chunks_size l.block-iterator ≡ 128)

@@ -11,7 +11,7 @@ pub returns-clause-consumed : goal.returns-clause-consumed
 returns-clause-consumed g c =
     let at = c.within-from.result in
     let old = c.args.input.now in
-    let got = c.read_some-got in
+    let new = c.read_some.new.bytes in
     let front : length (take at old) ≡ at = omega (arith, length-take at old, c.within-from.ensures.value) in
-    let same : length (put_mid at (length old - at) old got.new.bytes) ≡ length old = search rules in
-    got_in _ _ c.args.n at got.result.end c.within.result (take at old) got.new.bytes _ front (omega (arith, same, c.within-from.ensures.value)) got.ensures.prefix_len.0 c.within.ensures.value got.ensures.consumed
+    let same : length (put_mid at (length old - at) old new) ≡ length old = search rules in
+    got_in _ _ c.args.n at c.in_ok-got.got c.within.result (take at old) new _ front (omega (arith, same, c.within-from.ensures.value)) c.in_ok-got.ensures.bound.0 c.within.ensures.value c.in_ok-got.ensures.bytes.0

@@ -2,7 +2,7 @@
 -- Assumes nothing.
 use mathlib.Core.Path.{refl}
 use Rattle.taking.proofs.Laws.{next_closed, next_rest, next_more, taken_closed, taken_rest, taken_more}
-use Rattle.taking.proofs.next.Goals as goal
+use Rattle.taking.proofs.Input.next.Goals as goal
 
 pub returns-then-not-is_open : goal.returns-then-not-is_open
 returns-then-not-is_open g c =
@@ -16,7 +16,7 @@ pub returns-then-is_under_way : goal.returns-then-is_under_way
 returns-then-is_under_way g c =
     let on = c.if-not-is_open.false in
     record {
-      held = next_rest _ _ _ _ _ _ _ _ on c.behind-from.ensures c.fewer-turns.ensures c.is_under_way.ensures c.if-is_under_way.true;
+      held = next_rest _ _ _ _ _ _ _ _ on c.behind-from.ensures c.saturating_sub-turns.ensures c.is_under_way.ensures c.if-is_under_way.true;
       source = taken_rest on c.behind-from.ensures c.is_under_way.ensures c.if-is_under_way.true refl;
     }
 
@@ -24,6 +24,6 @@ pub returns : goal.returns
 returns g c =
     let on = c.if-not-is_open.false in
     record {
-      held = next_more _ _ _ _ _ _ _ _ on c.behind-from.ensures c.fewer-turns.ensures c.is_under_way.ensures c.if-is_under_way.false c.keep-len.ensures c.more.ensures.held;
+      held = next_more _ _ _ _ _ _ _ _ on c.behind-from.ensures c.saturating_sub-turns.ensures c.is_under_way.ensures c.if-is_under_way.false c.keep-len.ensures c.more.ensures.held;
       source = taken_more on c.behind-from.ensures c.is_under_way.ensures c.if-is_under_way.false c.keep-len.ensures.0 c.more.ensures.consumed;
     }
