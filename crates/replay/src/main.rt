@@ -1,6 +1,5 @@
 // Goes over a recorded run: it is read from standard input, and one line goes to standard output, the
 // number of the first pair whose answers differ. What can't be read or written is said on standard error.
-// The line's length is cut to its buffer, so that safety rests on no contract of `trace`.
 #![tactic(auto)]
 
 use std::io::Error;
@@ -29,13 +28,10 @@ fn say(rt: HostRuntime, bytes: &[u8], failure: Error) {
 // Goes over a recorded run and writes its line.
 fn show(rt: HostRuntime, bytes: &[u8]) {
     let line = trace::printed_line(trace::replay(bytes));
-    let text = line.bytes;
-    let end = streams::within(line.len, &text);
-    let mut output = rt.stdout();
     streams::write_or_say(
         rt,
-        &mut output,
-        &text[..end],
+        &mut rt.stdout(),
+        line.as_bytes(),
         b"replay: the number was not written",
     );
 }

@@ -12,9 +12,7 @@ const ROOM: usize = LIMIT + 1;
 // Goes over a recorded run and writes its line. Where it can't be written there is nobody to tell.
 fn show(rt: HostRuntime, run: &[u8]) {
     let line = trace::printed_line(trace::replay(run));
-    let text = line.bytes;
-    let end = streams::within(line.len, &text);
-    let _ = rt.write_all(&text[..end]);
+    let _ = rt.write_all(line.as_bytes());
 }
 
 // Tries the run in the file that argument i names, and gives whether there is such an argument.
