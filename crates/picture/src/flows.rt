@@ -69,10 +69,7 @@ fn swing(from: usize, to: usize) -> usize {
 
 // The head of an arrow, where it comes to a database.
 fn arrow_head(page: &mut Page, flow: &Flow, to: Point) -> fmt::Result {
-    let back = Point {
-        x: LEFT - 9,
-        y: to.y,
-    };
+    let back = Point::at(LEFT - 9, to.y);
     let steps = [
         Step::Start(back.up(5)),
         Step::Straight(to),
@@ -84,17 +81,14 @@ fn arrow_head(page: &mut Page, flow: &Flow, to: Point) -> fmt::Result {
 // A database forwards to another: a curve from below the middle of one to above the middle of the other.
 fn forwarding(page: &mut Page, flow: &Flow, from: usize, to: usize) -> fmt::Result {
     let x = LEFT.saturating_sub(swing(from, to));
-    let start = Point { x: LEFT, y: from }.down(7);
-    let end = Point { x: LEFT, y: to }.up(7);
+    let start = Point::at(LEFT, from).down(7);
+    let end = Point::at(LEFT, to).up(7);
     let steps = [
         Step::Start(start),
         Step::Curve(
-            Point { x, y: start.y },
-            Point { x, y: end.y },
-            Point {
-                x: LEFT - 6,
-                y: end.y,
-            },
+            Point::at(x, start.y),
+            Point::at(x, end.y),
+            Point::at(LEFT - 6, end.y),
         ),
     ];
     shapes::path(page, flow.class(Look::Line), &steps)?;
@@ -116,11 +110,8 @@ fn readers_of(page: &mut Page, flow: &Flow, readers: u64, from: usize) -> fmt::R
     for (i, r) in Members(flow.may).enumerate() {
         if sets::contains(readers, r) {
             let steps = [
-                Step::Start(Point { x: RIGHT, y: from }),
-                Step::Straight(Point {
-                    x: ROLES - RADIUS,
-                    y: flow.row(i),
-                }),
+                Step::Start(Point::at(RIGHT, from)),
+                Step::Straight(Point::at(ROLES - RADIUS, flow.row(i))),
             ];
             shapes::path(page, flow.class(Look::Line), &steps)?;
         }
@@ -136,15 +127,12 @@ fn database(page: &mut Page, flow: &Flow, d: usize, y: usize) -> fmt::Result {
         Look::Border
     };
     let area = Area {
-        corner: Point { x: LEFT, y }.up(14),
+        corner: Point::at(LEFT, y).up(14),
         width: RIGHT - LEFT,
         height: 28,
     };
     shapes::rectangle(page, flow.class(look), area)?;
-    let middle = Point {
-        x: (LEFT + RIGHT) / 2,
-        y,
-    };
+    let middle = Point::at((LEFT + RIGHT) / 2, y);
     shapes::label(page, Look::Middle, middle, Name::Database(d))
 }
 
@@ -162,10 +150,7 @@ fn databases(page: &mut Page, tables: &Tables, flow: &Flow) -> fmt::Result {
 // The circles of the roles that may read a flow.
 fn roles(page: &mut Page, flow: &Flow) -> fmt::Result {
     for (i, r) in Members(flow.may).enumerate() {
-        let middle = Point {
-            x: ROLES,
-            y: flow.row(i),
-        };
+        let middle = Point::at(ROLES, flow.row(i));
         shapes::circle(page, flow.number, middle, RADIUS)?;
         shapes::label(page, Look::Middle, middle, Name::Role(r))?;
     }
@@ -174,14 +159,13 @@ fn roles(page: &mut Page, flow: &Flow) -> fmt::Result {
 
 // The band itself, with the flow's number.
 fn ground(page: &mut Page, flow: &Flow) -> fmt::Result {
-    let corner = Point { x: 16, y: flow.top };
     let area = Area {
-        corner,
+        corner: Point::at(16, flow.top),
         width: 400,
         height: flow.depth(),
     };
     shapes::rectangle(page, flow.class(Look::Band), area)?;
-    title(page, flow, Point { x: 28, y: flow.top }.down(21))
+    title(page, flow, Point::at(28, flow.top).down(21))
 }
 
 // The name of a flow, in its colour.

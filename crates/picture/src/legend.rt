@@ -2,6 +2,7 @@
 use super::page::{Height, Page};
 use super::shapes::{Area, Class, Look, Point};
 use super::{overlaps, shapes};
+use model::Engine;
 use std::fmt;
 use std::fmt::Write;
 
@@ -30,7 +31,7 @@ text{font-family:Arial,Helvetica,sans-serif;font-size:14px;fill:#111}
 ";
 
 // The colour of each flow.
-const COLOURS: [&str; 8] = [
+const COLOURS: [&str; Engine::FLOWS] = [
     "1b5fa8", "c45a00", "22803a", "7b3fb0", "b3262b", "6d4a2b", "b83a8c", "0d7d84",
 ];
 
@@ -90,21 +91,21 @@ pub(crate) fn columns(page: &mut Page, y: usize) -> fmt::Result {
         (762, "overlapping roles"),
     ];
     for (x, name) in names {
-        shapes::text(page, Class::Plain(Look::Middle), Point { x, y }, name)?;
+        shapes::text(page, Class::Plain(Look::Middle), Point::at(x, y), name)?;
     }
     Ok(())
 }
 
 // What is said of a mark, beside it.
 fn said(page: &mut Page, y: usize, words: &str) -> fmt::Result {
-    let at = Point { x: 124, y }.down(5);
+    let at = Point::at(124, y).down(5);
     shapes::text(page, Class::Plain(Look::Text), at, words)
 }
 
 // A rectangle of the first flow, as a mark.
 fn database(page: &mut Page, look: Look, x: usize, y: usize) -> fmt::Result {
     let area = Area {
-        corner: Point { x, y }.up(12),
+        corner: Point::at(x, y).up(12),
         width: 34,
         height: 24,
     };
@@ -120,7 +121,7 @@ fn flow_marks(page: &mut Page, y: usize) -> fmt::Result {
         y,
         "a database that the flow's records come to; with a thick border: its root. Arrows are forwarding",
     )?;
-    let middle = Point { x: MARK, y }.down(DEPTH);
+    let middle = Point::at(MARK, y).down(DEPTH);
     shapes::circle(page, 0, middle, 16)?;
     said(
         page,
@@ -131,7 +132,7 @@ fn flow_marks(page: &mut Page, y: usize) -> fmt::Result {
 
 // The marks of the right half.
 fn role_marks(page: &mut Page, y: usize) -> fmt::Result {
-    let mut middle = Point { x: MARK, y };
+    let mut middle = Point::at(MARK, y);
     for (look, is_denied, words) in SQUARES {
         overlaps::mark(page, look, is_denied, middle)?;
         said(page, middle.y, words)?;
@@ -142,7 +143,7 @@ fn role_marks(page: &mut Page, y: usize) -> fmt::Result {
 
 // All marks. Gives the height below them.
 pub(crate) fn marks(page: &mut Page, y: usize) -> Height {
-    let at = Point { x: 24, y };
+    let at = Point::at(24, y);
     shapes::text(page, Class::Plain(Look::Heading), at, "Marks")?;
     flow_marks(page, at.down(30).y)?;
     role_marks(page, at.down(110).y)?;

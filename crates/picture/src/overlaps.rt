@@ -41,19 +41,18 @@ impl Overlap {
     }
 
     // How many lines it has.
-    fn lines(self, flows: &[Flow]) -> usize {
-        flows.iter().fold(0usize, |n, flow| {
+    fn lines(self, session: &Session) -> usize {
+        session.flows().iter().fold(0usize, |n, flow| {
             n.saturating_add(sets::size(sets::intersection(flow.may, self.others)) as usize)
         })
     }
 
     // Whether they have two colours or more.
-    pub(crate) fn is_coloured(self, flows: &[Flow]) -> bool {
-        let of_flows = flows
-            .iter()
+    pub(crate) fn is_coloured(self, session: &Session) -> bool {
+        let flows = session.flows().iter();
+        2 <= flows
             .filter(|flow| sets::meets(flow.may, self.others))
-            .count();
-        2 <= of_flows
+            .count()
     }
 
     // How its square looks.
@@ -61,7 +60,7 @@ impl Overlap {
         if sets::contains(session.conflicts, self.role) {
             return Look::Filled;
         }
-        if self.is_coloured(session.flows()) {
+        if self.is_coloured(session) {
             Look::Grey
         } else {
             Look::Empty
@@ -81,19 +80,13 @@ fn edge(
     middle: usize,
 ) -> fmt::Result {
     let steps = [
-        Step::Start(Point {
-            x: LEAVING,
-            y: from,
-        }),
-        Step::Straight(Point { x: LEVEL, y }),
-        Step::Straight(Point { x: TURN, y }),
-        Step::Straight(Point {
-            x: SQUARE,
-            y: middle,
-        }),
+        Step::Start(Point::at(LEAVING, from)),
+        Step::Straight(Point::at(LEVEL, y)),
+        Step::Straight(Point::at(TURN, y)),
+        Step::Straight(Point::at(SQUARE, middle)),
     ];
     shapes::path(page, Class::Of(Look::Line, flow.number), &steps)?;
-    let at = Point { x: LEVEL + 8, y }.up(4);
+    let at = Point::at(LEVEL + 8, y).up(4);
     shapes::begin_text(page, Class::Of(Look::FlowText, flow.number), at)?;
     users::on_edge(page, &session.tables.roles, pair, at)?;
     shapes::end_text(page)
@@ -129,19 +122,11 @@ pub(crate) fn mark(page: &mut Page, look: Look, is_denied: bool, middle: Point) 
 }
 
 // The square of a role.
-fn square(
-    page: &mut Page,
-    session: &Session,
-    overlap: Overlap,
-    denied: u64,
-    y: usize,
-) -> fmt::Result {
-    let middle = Point {
-        x: SQUARE + SIDE / 2,
-        y,
-    };
+fn square(page: &mut Page, session: &Session, overlap: Overlap, y: usize) -> fmt::Result {
+    let middle = Point::at(SQUARE + SIDE / 2, y);
     let look = overlap.look(session);
-    mark(page, look, sets::contains(denied, overlap.role), middle)?;
+    let is_denied = sets::contains(session.denied(), overlap.role);
+    mark(page, look, is_denied, middle)?;
     let ink = match look {
         Look::Filled => Look::White,
         _ => Look::Middle,
@@ -150,14 +135,8 @@ fn square(
 }
 
 // A role with its lines. Gives the height where the next one begins.
-fn overlapping_role(
-    page: &mut Page,
-    session: &Session,
-    overlap: Overlap,
-    denied: u64,
-    y: usize,
-) -> Height {
-    let n = overlap.lines(session.flows());
+fn overlapping_role(page: &mut Page, session: &Session, overlap: Overlap, y: usize) -> Height {
+    let n = overlap.lines(session);
     if n == 0 {
         return Ok(y);
     }
@@ -167,19 +146,15 @@ fn overlapping_role(
     for flow in session.flows() {
         now = edges_of(page, session, flow, overlap, now, middle)?;
     }
-    square(page, session, overlap, denied, middle)?;
+    square(page, session, overlap, middle)?;
     Ok(y.saturating_add(depth))
 }
 
 // All overlapping roles. Gives the height below them.
 pub(crate) fn overlapping_roles(page: &mut Page, session: &Session, y: usize) -> Height {
-    let denied = session
-        .flows()
-        .last()
-        .map_or(0, |flow| flow.constraint.deny);
     let mut now = y;
     for o in 0..Engine::ROLES {
-        now = overlapping_role(page, session, Overlap::of(session, o), denied, now)?;
+        now = overlapping_role(page, session, Overlap::of(session, o), now)?;
     }
     Ok(now)
 }

@@ -1,5 +1,5 @@
-// Where a picture goes: to standard output, through a small buffer, or nowhere while it is measured.
-ghost use Rattle.std.specs.Prelude.{◌≤◌};
+// Where a picture goes: to standard output, through a small buffer, or nowhere, while it is measured.
+ghost use Rattle.std.specs.Prelude.{◌≡◌, ◌≤◌};
 
 use std::fmt;
 
@@ -37,8 +37,13 @@ impl Page {
         }
     }
 
-    // Writes what is held back. Where not all can be written, that is said.
-    pub(crate) fn flush(&mut self) -> fmt::Result {
+    // Writes what is held back, if the page is on standard output. Where not all can be written, that is
+    // said.
+    pub(crate) fn flush(&mut self) -> fmt::Result
+        ensures { self.new.filled ≡ 0 }
+    {
+        let end = self.filled;
+        self.filled = 0;
         let Some(rt) = self.output else {
             return Ok(());
         };
@@ -46,10 +51,9 @@ impl Page {
         let written = streams::write_or_say(
             rt,
             &mut output,
-            &self.held[..self.filled],
+            &self.held[..end],
             b"picture: the picture was not written whole",
         );
-        self.filled = 0;
         if written.failure.is_some() {
             return Err(fmt::Error);
         }
@@ -61,19 +65,14 @@ impl Page {
         if self.filled == ROOM {
             self.flush()?;
         }
-        if self.filled < ROOM {
-            self.held[self.filled] = byte;
-            self.filled += 1;
-        }
+        self.held[self.filled] = byte;
+        self.filled += 1;
         Ok(())
     }
 }
 
 impl fmt::Write for Page {
     fn write_str(&mut self, text: &str) -> fmt::Result {
-        if self.output.is_none() {
-            return Ok(());
-        }
         for byte in text.as_bytes() {
             self.byte(*byte)?;
         }

@@ -32,6 +32,17 @@ struct Reason {
     other: Reading,
 }
 
+impl Reading {
+    // The first role by which a user with these roles reads a flow.
+    fn of(flow: &Flow, held: u64) -> Option<Reading> {
+        let role = Members(sets::intersection(held, flow.may)).next()?;
+        Some(Reading {
+            flow: flow.number,
+            role,
+        })
+    }
+}
+
 impl Display for Reading {
     fn fmt<W: Write>(&self, f: &mut fmt::Formatter<W>) -> fmt::Result {
         let flow = self.flow;
@@ -51,7 +62,7 @@ impl Display for Reason {
 
 // Where a line of the text begins.
 fn line(y: usize) -> Point {
-    Point { x: LEFT, y }
+    Point::at(LEFT, y)
 }
 
 // A heading. Gives the height of the line below it.
@@ -70,7 +81,7 @@ fn roles<D: Display + Drop>(page: &mut Page, y: usize, words: D, set: u64, none:
     if set == 0 {
         page.write_str(none)?;
     }
-    let mut names = Names::from(Point { x: LEFT + 16, y }, ON_A_LINE);
+    let mut names = Names::from(Point::at(LEFT + 16, y), ON_A_LINE);
     for r in Members(set) {
         names.put(page, Name::Role(r))?;
     }
@@ -83,13 +94,8 @@ fn role_sets(page: &mut Page, flow: &Flow, y: usize) -> Height {
     let mut now = y;
     for (h, set) in flow.constraint.roles.iter().enumerate() {
         if h <= flow.number {
-            now = roles(
-                page,
-                now,
-                format_args!("role set for flow {h:02x}:"),
-                *set,
-                " none",
-            )?;
+            let words = format_args!("role set for flow {h:02x}:");
+            now = roles(page, now, words, *set, " none")?;
         }
     }
     Ok(now)
@@ -100,45 +106,31 @@ pub(crate) fn constraint(page: &mut Page, flow: &Flow, y: usize) -> Height {
     let at = line(y);
     flows::title(page, flow, at)?;
     let version = flow.constraint.version;
-    shapes::text(
-        page,
-        Class::Plain(Look::Text),
-        Point { x: LEFT + 62, y },
-        format_args!("version {version:08x}"),
-    )?;
-    let next = roles(
-        page,
-        at.down(LINE).y,
-        "denies:",
-        flow.constraint.deny,
-        " nobody",
-    )?;
+    let words = format_args!("version {version:08x}");
+    let beside = Point::at(LEFT + 62, y);
+    shapes::text(page, Class::Plain(Look::Text), beside, words)?;
+    let deny = flow.constraint.deny;
+    let next = roles(page, at.down(LINE).y, "denies:", deny, " nobody")?;
     let last = role_sets(page, flow, next)?;
     Ok(last.saturating_add(6))
 }
 
-impl Flow {
-    // The first role by which a user with these roles reads the flow.
-    fn reading(&self, held: u64) -> Option<Reading> {
-        let role = Members(sets::intersection(held, self.may)).next()?;
-        Some(Reading {
-            flow: self.number,
-            role,
-        })
-    }
+// The first two flows that a user with these roles reads.
+fn two_readings(session: &Session, held: u64) -> Option<(Reading, Reading)> {
+    let mut readings = session
+        .flows()
+        .iter()
+        .filter_map(|flow| Reading::of(flow, held));
+    Some((readings.next()?, readings.next()?))
 }
 
 // Why role c conflicts: the first user who holds it and reads two flows, and the first two of these.
 fn why(session: &Session, c: usize) -> Option<Reason> {
     for (user, held) in session.tables.roles.iter().enumerate() {
-        if sets::contains(*held, c) {
-            let mut readings = session
-                .flows()
-                .iter()
-                .filter_map(|flow| flow.reading(*held));
-            if let (Some(one), Some(other)) = (readings.next(), readings.next()) {
-                return Some(Reason { user, one, other });
-            }
+        if sets::contains(*held, c)
+            && let Some((one, other)) = two_readings(session, *held)
+        {
+            return Some(Reason { user, one, other });
         }
     }
     None
@@ -161,7 +153,7 @@ pub(crate) fn reasons(page: &mut Page, session: &Session, y: usize) -> Height {
 // The roles that have two colours or more and don't conflict.
 fn cleared(session: &Session) -> u64 {
     let coloured = (0..Engine::ROLES)
-        .filter(|o| Overlap::of(session, *o).is_coloured(session.flows()))
+        .filter(|o| Overlap::of(session, *o).is_coloured(session))
         .fold(0, sets::insert);
     sets::difference(coloured, session.conflicts)
 }
@@ -172,11 +164,8 @@ pub(crate) fn clearings(page: &mut Page, session: &Session, y: usize) -> Height 
     if set == 0 {
         return Ok(y);
     }
-    let next = heading(
-        page,
-        line(y).down(14).y,
-        "Lines of two flows, and no conflict",
-    )?;
+    let words = "Lines of two flows, and no conflict";
+    let next = heading(page, line(y).down(14).y, words)?;
     let at = line(next);
     let words = "Nobody who holds the role reads two flows:";
     shapes::text(page, Class::Plain(Look::Text), at, words)?;

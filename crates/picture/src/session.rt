@@ -27,8 +27,7 @@ pub(crate) struct Session<'a> {
     ghost count_le_flow_count: { count ≤ flow_count },
 }
 
-// Flow g of session s, with the roles that may read it. Its band has its place as soon as those above it
-// are known.
+// Flow g of session s, with the roles that may read it, as if it had the first band.
 fn flow_of(kept: &Sessions, s: usize, g: usize, may: u64) -> Flow
     requires s_lt_all_sessions { s < all_sessions }
     requires g_lt_flow_count { g < flow_count }
@@ -78,6 +77,12 @@ impl<'a> Session<'a> {
         &self.flows[..self.count]
     }
 
+    // The roles that the last flow's constraint denies.
+    pub(crate) fn denied(&self) -> u64 {
+        let last = self.flows().last();
+        last.map_or(0, |flow| flow.constraint.deny)
+    }
+
     // The roles that may read some flow.
     fn readers(&self) -> u64 {
         self.flows()
@@ -124,12 +129,8 @@ fn foot(page: &mut Page, session: &Session, y: usize) -> Height {
 
 // What stands below the title of a session without flows. Gives the height of the picture.
 fn empty(page: &mut Page) -> Height {
-    shapes::text(
-        page,
-        Class::Plain(Look::Text),
-        Point { x: 24, y: 70 },
-        "The session is open and has no flows.",
-    )?;
+    let words = "The session is open and has no flows.";
+    shapes::text(page, Class::Plain(Look::Text), Point::at(24, 70), words)?;
     Ok(100)
 }
 
@@ -152,12 +153,12 @@ pub(crate) fn show(rt: HostRuntime, asked: Asked, session: &Session) -> fmt::Res
     let height = whole(&mut Page::measured(), session)?;
     let mut page = Page::written(rt);
     legend::begin(&mut page, height)?;
-    let at = Point { x: 24, y: 36 };
+    let words = format_args!("The {asked}");
     shapes::text(
         &mut page,
         Class::Plain(Look::Title),
-        at,
-        format_args!("The {asked}"),
+        Point::at(24, 36),
+        words,
     )?;
     whole(&mut page, session)?;
     legend::end(&mut page)?;

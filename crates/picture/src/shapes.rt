@@ -59,29 +59,25 @@ pub(crate) enum Step {
 }
 
 impl Point {
+    pub(crate) fn at(x: usize, y: usize) -> Point {
+        Point { x, y }
+    }
+
     pub(crate) fn down(self, n: usize) -> Point {
-        Point {
-            x: self.x,
-            y: self.y.saturating_add(n),
-        }
+        Point::at(self.x, self.y.saturating_add(n))
     }
 
     pub(crate) fn up(self, n: usize) -> Point {
-        Point {
-            x: self.x,
-            y: self.y.saturating_sub(n),
-        }
+        Point::at(self.x, self.y.saturating_sub(n))
     }
 }
 
 impl Area {
     // A square around its middle.
     pub(crate) fn around(middle: Point, side: usize) -> Area {
+        let left = middle.x.saturating_sub(side / 2);
         Area {
-            corner: Point {
-                x: middle.x.saturating_sub(side / 2),
-                y: middle.y.saturating_sub(side / 2),
-            },
+            corner: Point::at(left, middle.y).up(side / 2),
             width: side,
             height: side,
         }

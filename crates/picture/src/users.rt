@@ -75,9 +75,9 @@ fn note(page: &mut Page, roles: &[u64; Engine::USERS], pair: Pair, y: usize) -> 
     if pair.count(roles) <= FIT {
         return Ok(y);
     }
-    shapes::begin_text(page, Class::Plain(Look::Text), Point { x: 24, y })?;
+    shapes::begin_text(page, Class::Plain(Look::Text), Point::at(24, y))?;
     write!(page, "{pair}")?;
-    let last = users(page, roles, pair, Point { x: 40, y })?;
+    let last = users(page, roles, pair, Point::at(40, y))?;
     shapes::end_text(page)?;
     Ok(last.saturating_add(LINE))
 }
