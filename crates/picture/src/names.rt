@@ -38,7 +38,7 @@ impl Display for Name {
 
 impl Names {
     // No name yet. New lines begin below this point, and have room for n names, as the first one has.
-    pub(crate) fn from(at: Point, n: usize) -> Names {
+    pub(crate) fn new(at: Point, n: usize) -> Names {
         Names {
             at,
             room: n,

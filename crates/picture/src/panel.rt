@@ -81,7 +81,7 @@ fn roles<D: Display + Drop>(page: &mut Page, y: usize, words: D, set: u64, none:
     if set == 0 {
         page.write_str(none)?;
     }
-    let mut names = Names::from(Point::at(LEFT + 16, y), ON_A_LINE);
+    let mut names = Names::new(Point::at(LEFT + 16, y), ON_A_LINE);
     for r in Members(set) {
         names.put(page, Name::Role(r))?;
     }

@@ -51,6 +51,7 @@ impl<'a> Session<'a> {
         if Engine::ALL_SESSIONS <= s || !sets::contains(kept.opened, s) {
             return None;
         }
+        // It is no more than that anyway; here the bound is seen without the definition of the count.
         let count = today::flows_today(&kept.counts, s).min(Engine::FLOWS);
         let may = graph::roles_by_flow(&tables.readers, &kept.reaches, s, count, 0);
         let mut flows = std::array::from_fn(|g| flow_of(kept, s, g, may[g]));

@@ -44,7 +44,7 @@ impl Display for Pair {
 // The names of those who hold both roles, in an open text that begins here. Gives the height of its last
 // line.
 fn users(page: &mut Page, roles: &[u64; Engine::USERS], pair: Pair, at: Point) -> Height {
-    let mut names = Names::from(at, ON_A_LINE);
+    let mut names = Names::new(at, ON_A_LINE);
     for (u, held) in roles.iter().enumerate() {
         if pair.is_within(*held) {
             names.put(page, Name::User(u))?;
