@@ -1,9 +1,13 @@
 // The left half of the picture: a band for each flow, with its databases and the roles that may read
 // them. What belongs to several flows stands in the band of each.
-use super::page::ROOM;
-use super::{numbers, shapes};
-use model::Engine;
-use tables::lent;
+use super::members::Members;
+use super::names::Name;
+use super::page::Page;
+use super::shapes;
+use super::shapes::{Area, Class, Look, Point, Step};
+use model::Constraint;
+use std::fmt;
+use tables::{Tables, lent};
 
 // A row of a band, and what stands above the first one.
 const ROW: usize = 44;
@@ -22,217 +26,162 @@ const RADIUS: usize = 16;
 // Where lines to the overlapping roles begin.
 pub(crate) const LEAVING: usize = ROLES + RADIUS;
 
-// How deep n rows are.
-fn rows(n: usize) -> usize {
-    if Engine::ROLES < n {
-        return 0;
+// A flow of a session, and where its band begins.
+#[derive(Clone, Copy)]
+pub(crate) struct Flow {
+    pub(crate) number: usize,
+    pub(crate) root: usize,
+    pub(crate) reach: u64,
+    // The roles that may read a database of the reach.
+    pub(crate) may: u64,
+    pub(crate) constraint: Constraint,
+    pub(crate) top: usize,
+}
+
+impl Flow {
+    // The middle of row i of the band.
+    pub(crate) fn row(&self, i: usize) -> usize {
+        let first = self.top.saturating_add(HEAD + ROW / 2);
+        first.saturating_add(i.saturating_mul(ROW))
     }
-    n * ROW
-}
 
-// The middle of row i of a band that begins at this height.
-pub(crate) fn row_at(top: usize, i: usize) -> usize {
-    numbers::plus(numbers::plus(top, HEAD + ROW / 2), rows(i))
-}
+    // How deep the band is.
+    fn depth(&self) -> usize {
+        let most = sets::size(self.reach).max(sets::size(self.may));
+        (most as usize).saturating_mul(ROW).saturating_add(HEAD + 6)
+    }
 
-// How deep a flow's band is.
-fn depth(reach: u64, may: u64) -> usize {
-    let most = numbers::greater(numbers::size(reach), numbers::size(may));
-    numbers::plus(HEAD + 6, rows(most))
-}
+    // Where the next band begins.
+    pub(crate) fn below(&self) -> usize {
+        self.top.saturating_add(self.depth()).saturating_add(16)
+    }
 
-// Where the next band begins.
-pub(crate) fn below(top: usize, reach: u64, may: u64) -> usize {
-    numbers::plus(numbers::plus(top, depth(reach, may)), 16)
+    fn class(&self, look: Look) -> Class {
+        Class::Of(look, self.number)
+    }
 }
 
 // How far a curve between two rows of the databases goes to the left.
 fn swing(from: usize, to: usize) -> usize {
-    let apart = numbers::plus(numbers::less(from, to), numbers::less(to, from));
+    let apart = from.abs_diff(to);
     if 240 < apart { 100 } else { 40 + apart / 4 }
 }
 
 // The head of an arrow, where it comes to a database.
-fn arrow_head(rt: HostRuntime, out: &mut [u8; ROOM], at: &mut usize, g: usize, y: usize) {
-    shapes::begin_path(rt, out, at, b'a', g);
-    shapes::point(rt, out, at, b'M', LEFT - 9, numbers::less(y, 5));
-    shapes::point(rt, out, at, b'L', LEFT, y);
-    shapes::point(rt, out, at, b'L', LEFT - 9, numbers::plus(y, 5));
-    shapes::end_path(rt, out, at);
+fn arrow_head(page: &mut Page, flow: &Flow, to: Point) -> fmt::Result {
+    let back = Point::at(LEFT - 9, to.y);
+    let steps = [
+        Step::Start(back.up(5)),
+        Step::Straight(to),
+        Step::Straight(back.down(5)),
+    ];
+    shapes::path(page, flow.class(Look::Head), &steps)
 }
 
 // A database forwards to another: a curve from below the middle of one to above the middle of the other.
-fn forwarding(
-    rt: HostRuntime,
-    out: &mut [u8; ROOM],
-    at: &mut usize,
-    g: usize,
-    from: usize,
-    to: usize,
-) {
-    let x = numbers::less(LEFT, swing(from, to));
-    let start = numbers::plus(from, 7);
-    let end = numbers::less(to, 7);
-    shapes::begin_path(rt, out, at, b'e', g);
-    shapes::point(rt, out, at, b'M', LEFT, start);
-    shapes::point(rt, out, at, b'C', x, start);
-    shapes::point(rt, out, at, b' ', x, end);
-    shapes::point(rt, out, at, b' ', LEFT - 6, end);
-    shapes::end_path(rt, out, at);
-    arrow_head(rt, out, at, g, end);
+fn forwarding(page: &mut Page, flow: &Flow, from: usize, to: usize) -> fmt::Result {
+    let x = LEFT.saturating_sub(swing(from, to));
+    let start = Point::at(LEFT, from).down(7);
+    let end = Point::at(LEFT, to).up(7);
+    let steps = [
+        Step::Start(start),
+        Step::Curve(
+            Point::at(x, start.y),
+            Point::at(x, end.y),
+            Point::at(LEFT - 6, end.y),
+        ),
+    ];
+    shapes::path(page, flow.class(Look::Line), &steps)?;
+    arrow_head(page, flow, end)
 }
 
 // The databases of the reach that one of them forwards to.
-fn forwards_from(
-    rt: HostRuntime,
-    out: &mut [u8; ROOM],
-    at: &mut usize,
-    g: usize,
-    reach: u64,
-    targets: u64,
-    top: usize,
-    from: usize,
-) {
-    let mut e = 0;
-    while e < Engine::DATABASES {
-        if sets::contains(sets::intersection(reach, targets), e) {
-            let to = row_at(top, numbers::rank(reach, e));
-            forwarding(rt, out, at, g, from, to);
+fn forwards_from(page: &mut Page, flow: &Flow, targets: u64, from: usize) -> fmt::Result {
+    for (i, e) in Members(flow.reach).enumerate() {
+        if sets::contains(targets, e) {
+            forwarding(page, flow, from, flow.row(i))?;
         }
-        e += 1;
     }
+    Ok(())
 }
 
-// A role may read a database.
-fn permission(
-    rt: HostRuntime,
-    out: &mut [u8; ROOM],
-    at: &mut usize,
-    g: usize,
-    from: usize,
-    to: usize,
-) {
-    shapes::begin_path(rt, out, at, b'e', g);
-    shapes::point(rt, out, at, b'M', RIGHT, from);
-    shapes::point(rt, out, at, b'L', ROLES - RADIUS, to);
-    shapes::end_path(rt, out, at);
-}
-
-// The roles that may read one database.
-fn readers_of(
-    rt: HostRuntime,
-    out: &mut [u8; ROOM],
-    at: &mut usize,
-    g: usize,
-    may: u64,
-    readers: u64,
-    top: usize,
-    from: usize,
-) {
-    let mut r = 0;
-    while r < Engine::ROLES {
+// The roles that may read one database, which are among those that may read the flow.
+fn readers_of(page: &mut Page, flow: &Flow, readers: u64, from: usize) -> fmt::Result {
+    for (i, r) in Members(flow.may).enumerate() {
         if sets::contains(readers, r) {
-            let to = row_at(top, numbers::rank(may, r));
-            permission(rt, out, at, g, from, to);
+            let steps = [
+                Step::Start(Point::at(RIGHT, from)),
+                Step::Straight(Point::at(ROLES - RADIUS, flow.row(i))),
+            ];
+            shapes::path(page, flow.class(Look::Line), &steps)?;
         }
-        r += 1;
     }
+    Ok(())
 }
 
 // The rectangle of a database; that of a root has a thick border.
-fn database(
-    rt: HostRuntime,
-    out: &mut [u8; ROOM],
-    at: &mut usize,
-    g: usize,
-    d: usize,
-    is_root: bool,
-    y: usize,
-) {
-    let letter = if is_root { b'r' } else { b'd' };
-    let top = numbers::less(y, 14);
-    shapes::rectangle(rt, out, at, letter, g, LEFT, top, RIGHT - LEFT, 28);
-    shapes::label(
-        rt,
-        out,
-        at,
-        b'm',
-        b'D',
-        d,
-        (LEFT + RIGHT) / 2,
-        numbers::plus(y, 5),
-    );
+fn database(page: &mut Page, flow: &Flow, d: usize, y: usize) -> fmt::Result {
+    let look = if d == flow.root {
+        Look::Root
+    } else {
+        Look::Border
+    };
+    let area = Area {
+        corner: Point::at(LEFT, y).up(14),
+        width: RIGHT - LEFT,
+        height: 28,
+    };
+    shapes::rectangle(page, flow.class(look), area)?;
+    let middle = Point::at((LEFT + RIGHT) / 2, y);
+    shapes::label(page, Look::Middle, middle, Name::Database(d))
 }
 
 // The databases of a flow, with all lines that leave them.
-fn databases<'a>(
-    rt: HostRuntime,
-    out: &mut [u8; ROOM],
-    at: &mut usize,
-    readers: &'a [u64; Engine::DATABASES],
-    forwards: &'a [u64; Engine::DATABASES],
-    g: usize,
-    root: usize,
-    reach: u64,
-    may: u64,
-    top: usize,
-) {
-    let mut d = 0;
-    while d < Engine::DATABASES {
-        if sets::contains(reach, d) {
-            let y = row_at(top, numbers::rank(reach, d));
-            forwards_from(rt, out, at, g, reach, lent::row(forwards, d), top, y);
-            readers_of(rt, out, at, g, may, lent::row(readers, d), top, y);
-            database(rt, out, at, g, d, d == root, y);
-        }
-        d += 1;
+fn databases(page: &mut Page, tables: &Tables, flow: &Flow) -> fmt::Result {
+    for (i, d) in Members(flow.reach).enumerate() {
+        let y = flow.row(i);
+        forwards_from(page, flow, lent::row(&tables.forwards, d), y)?;
+        readers_of(page, flow, lent::row(&tables.readers, d), y)?;
+        database(page, flow, d, y)?;
     }
+    Ok(())
 }
 
-// The circle of a role.
-fn role(rt: HostRuntime, out: &mut [u8; ROOM], at: &mut usize, g: usize, r: usize, y: usize) {
-    shapes::circle(rt, out, at, g, ROLES, y, RADIUS);
-    shapes::label(rt, out, at, b'm', b'R', r, ROLES, numbers::plus(y, 5));
-}
-
-// The roles that may read a flow.
-fn roles(rt: HostRuntime, out: &mut [u8; ROOM], at: &mut usize, g: usize, may: u64, top: usize) {
-    let mut r = 0;
-    while r < Engine::ROLES {
-        if sets::contains(may, r) {
-            role(rt, out, at, g, r, row_at(top, numbers::rank(may, r)));
-        }
-        r += 1;
+// The circles of the roles that may read a flow.
+fn roles(page: &mut Page, flow: &Flow) -> fmt::Result {
+    for (i, r) in Members(flow.may).enumerate() {
+        let middle = Point::at(ROLES, flow.row(i));
+        shapes::circle(page, flow.number, middle, RADIUS)?;
+        shapes::label(page, Look::Middle, middle, Name::Role(r))?;
     }
+    Ok(())
 }
 
 // The band itself, with the flow's number.
-fn ground(
-    rt: HostRuntime,
-    out: &mut [u8; ROOM],
-    at: &mut usize,
-    g: usize,
-    top: usize,
-    depth: usize,
-) {
-    shapes::rectangle(rt, out, at, b'b', g, 16, top, 400, depth);
-    shapes::flow_name(rt, out, at, g, 28, numbers::plus(top, 21));
+fn ground(page: &mut Page, flow: &Flow) -> fmt::Result {
+    let area = Area {
+        corner: Point::at(16, flow.top),
+        width: 400,
+        height: flow.depth(),
+    };
+    shapes::rectangle(page, flow.class(Look::Band), area)?;
+    title(page, flow, Point::at(28, flow.top).down(21))
 }
 
-// All of flow g: its root, its reach and the roles that may read a database of it.
-pub(crate) fn flow<'a>(
-    rt: HostRuntime,
-    out: &mut [u8; ROOM],
-    at: &mut usize,
-    readers: &'a [u64; Engine::DATABASES],
-    forwards: &'a [u64; Engine::DATABASES],
-    g: usize,
-    root: usize,
-    reach: u64,
-    may: u64,
-    top: usize,
-) {
-    ground(rt, out, at, g, top, depth(reach, may));
-    databases(rt, out, at, readers, forwards, g, root, reach, may, top);
-    roles(rt, out, at, g, may, top);
+// The name of a flow, in its colour.
+pub(crate) fn title(page: &mut Page, flow: &Flow, at: Point) -> fmt::Result {
+    let number = flow.number;
+    shapes::text(
+        page,
+        flow.class(Look::FlowHeading),
+        at,
+        format_args!("Flow {number:02x}"),
+    )
+}
+
+// All of a flow: its root, its reach and the roles that may read a database of it.
+pub(crate) fn draw(page: &mut Page, tables: &Tables, flow: &Flow) -> fmt::Result {
+    ground(page, flow)?;
+    databases(page, tables, flow)?;
+    roles(page, flow)
 }

@@ -1,79 +1,81 @@
-// Bytes for standard output, through a small lent buffer. A place goes with the buffer: where the next
-// byte comes to stand, or MUTE where nothing is to be written. MUTE serves to measure a picture, and ends
-// one that could not be written.
+// Where a picture goes: to standard output, through a small buffer, or nowhere, while it is measured.
+ghost use Rattle.std.specs.Prelude.{◌≡◌, ◌≤◌};
+
+use std::fmt;
 
 // How many bytes are held back before they are written.
-pub(crate) const ROOM: usize = 4096;
+const ROOM: usize = 4096;
 
-pub(crate) const MUTE: usize = 1000000;
+// What comes of drawing a part: the height below it, or that the picture could not be written.
+pub(crate) type Height = Result<usize, fmt::Error>;
 
-// Writes the first n bytes, and gives the place for the next. Where not all are written it says so, and
-// there is none.
-fn written(rt: HostRuntime, bytes: &[u8], n: usize) -> usize {
-    let end = streams::within(n, bytes);
-    let mut output = rt.stdout();
-    let put = streams::write_or_say(
-        rt,
-        &mut output,
-        &bytes[..end],
-        b"picture: the picture was not written whole",
-    );
-    if put.end < end { MUTE } else { 0 }
+#[derive(Drop)]
+pub(crate) struct Page {
+    // The handle that standard output is written by. A page that is only measured has none.
+    output: Option<HostRuntime>,
+    held: [u8; ROOM],
+    filled: usize,
+    ghost filled_le_room: { filled ≤ 4096 },
 }
 
-// Writes what is held back.
-pub(crate) fn flush(rt: HostRuntime, out: &mut [u8; ROOM], at: &mut usize) {
-    if *at == MUTE {
-        return;
+impl Page {
+    // A page on which nothing is written.
+    pub(crate) fn measured() -> Page {
+        Page {
+            output: None,
+            held: [0; ROOM],
+            filled: 0,
+        }
     }
-    *at = written(rt, out, *at);
-}
 
-// One byte. A full buffer is written first.
-pub(crate) fn byte(rt: HostRuntime, out: &mut [u8; ROOM], at: &mut usize, b: u8) {
-    if *at == ROOM {
-        flush(rt, out, at);
+    // A page on standard output.
+    pub(crate) fn written(rt: HostRuntime) -> Page {
+        Page {
+            output: Some(rt),
+            held: [0; ROOM],
+            filled: 0,
+        }
     }
-    let place = *at;
-    if place < ROOM {
-        out[place] = b;
-        *at = place + 1;
+
+    // Writes what is held back, if the page is on standard output. Where not all can be written, that is
+    // said.
+    pub(crate) fn flush(&mut self) -> fmt::Result
+        ensures { self.new.filled ≡ 0 }
+    {
+        let end = self.filled;
+        self.filled = 0;
+        let Some(rt) = self.output else {
+            return Ok(());
+        };
+        let mut output = rt.stdout();
+        let written = streams::write_or_say(
+            rt,
+            &mut output,
+            &self.held[..end],
+            b"picture: the picture was not written whole",
+        );
+        if written.failure.is_some() {
+            return Err(fmt::Error);
+        }
+        Ok(())
+    }
+
+    // One byte. A full buffer is written first.
+    fn byte(&mut self, byte: u8) -> fmt::Result {
+        if self.filled == ROOM {
+            self.flush()?;
+        }
+        self.held[self.filled] = byte;
+        self.filled += 1;
+        Ok(())
     }
 }
 
-pub(crate) fn text(rt: HostRuntime, out: &mut [u8; ROOM], at: &mut usize, bytes: &[u8]) {
-    let mut i = 0;
-    while i < bytes.len() {
-        byte(rt, out, at, bytes[i]);
-        i += 1;
+impl fmt::Write for Page {
+    fn write_str(&mut self, text: &str) -> fmt::Result {
+        for byte in text.as_bytes() {
+            self.byte(*byte)?;
+        }
+        Ok(())
     }
-}
-
-// A number in decimal digits.
-pub(crate) fn decimal(rt: HostRuntime, out: &mut [u8; ROOM], at: &mut usize, n: usize) {
-    let mut digits = [0u8; 20];
-    let k = io::decimal(n as u64, &mut digits);
-    text(rt, out, at, &digits[..k]);
-}
-
-// A number in at least this many hexadecimal digits.
-pub(crate) fn hex(rt: HostRuntime, out: &mut [u8; ROOM], at: &mut usize, n: usize, width: usize) {
-    let mut digits = [0u8; 16];
-    let k = io::hex(n as u64, width, &mut digits);
-    text(rt, out, at, &digits[..k]);
-}
-
-// A role or a database: its letter and its number.
-pub(crate) fn named(rt: HostRuntime, out: &mut [u8; ROOM], at: &mut usize, letter: u8, n: usize) {
-    byte(rt, out, at, letter);
-    hex(rt, out, at, n, 1);
-}
-
-// An attribute that is a number.
-pub(crate) fn number(rt: HostRuntime, out: &mut [u8; ROOM], at: &mut usize, name: &[u8], n: usize) {
-    byte(rt, out, at, b' ');
-    text(rt, out, at, name);
-    text(rt, out, at, b"='");
-    decimal(rt, out, at, n);
-    byte(rt, out, at, b'\'');
 }

@@ -1,339 +1,173 @@
 // The text beside the picture: the constraint of each flow, and why each role conflicts.
-use super::page::ROOM;
-use super::{numbers, overlaps, page, shapes};
-use model::{Engine, Version};
-use tables::lent;
+use super::flows::Flow;
+use super::members::Members;
+use super::names::{LINE, Name, Names};
+use super::overlaps::Overlap;
+use super::page::{Height, Page};
+use super::session::Session;
+use super::shapes::{Class, Look, Point};
+use super::{flows, shapes};
+use model::Engine;
+use std::fmt;
+use std::fmt::{Display, Write};
 
-// Where the text stands, and how deep a line is.
+// Where the text stands.
 const LEFT: usize = 830;
-
-const LINE: usize = 18;
 
 // How many roles stand on a line.
 const ON_A_LINE: usize = 9;
 
-pub(crate) fn heading(
-    rt: HostRuntime,
-    out: &mut [u8; ROOM],
-    at: &mut usize,
-    y: usize,
-    text: &[u8],
-) -> usize {
-    shapes::words(rt, out, at, b'h', LEFT, y, text);
-    numbers::plus(y, LINE + 2)
+// A flow, and the role by which a user reads it.
+#[derive(Clone, Copy)]
+struct Reading {
+    flow: usize,
+    role: usize,
 }
 
-// A role's name. Where a line is full, the text goes on in a new one; k roles stand before this one.
-fn role(
-    rt: HostRuntime,
-    out: &mut [u8; ROOM],
-    at: &mut usize,
-    r: usize,
-    k: usize,
-    y: usize,
-) -> usize {
-    let mut now = y;
-    if k != 0 && k % ON_A_LINE == 0 {
-        now = numbers::plus(y, LINE);
-        shapes::end_text(rt, out, at);
-        shapes::begin_text(rt, out, at, b'n', LEFT + 16, now);
+// Why a role conflicts: a user who holds it, and two flows that this user reads.
+#[derive(Clone, Copy)]
+struct Reason {
+    user: usize,
+    one: Reading,
+    other: Reading,
+}
+
+impl Reading {
+    // The first role by which a user with these roles reads a flow.
+    fn of(flow: &Flow, held: u64) -> Option<Reading> {
+        let role = Members(sets::intersection(held, flow.may)).next()?;
+        Some(Reading {
+            flow: flow.number,
+            role,
+        })
     }
-    page::byte(rt, out, at, b' ');
-    page::named(rt, out, at, b'R', r);
-    now
 }
 
-// The roles of a set, in an open text. Gives the height of its last line.
-fn roles(rt: HostRuntime, out: &mut [u8; ROOM], at: &mut usize, set: u64, y: usize) -> usize {
-    let mut now = y;
-    let mut k = 0;
-    let mut r = 0;
-    while r < Engine::ROLES {
-        if sets::contains(set, r) {
-            now = role(rt, out, at, r, k, now);
-            k = numbers::plus(k, 1);
-        }
-        r += 1;
+impl Display for Reading {
+    fn fmt<W: Write>(&self, f: &mut fmt::Formatter<W>) -> fmt::Result {
+        let flow = self.flow;
+        let role = Name::Role(self.role);
+        write!(f, "flow {flow:02x} by {role}")
     }
-    now
 }
 
-// The roles of a set and the end of the text, or what is said of none. Gives the height below it.
-fn roles_or(
-    rt: HostRuntime,
-    out: &mut [u8; ROOM],
-    at: &mut usize,
-    set: u64,
-    none: &[u8],
-    y: usize,
-) -> usize {
-    let mut last = y;
+impl Display for Reason {
+    fn fmt<W: Write>(&self, f: &mut fmt::Formatter<W>) -> fmt::Result {
+        let user = self.user;
+        let one = self.one;
+        let other = self.other;
+        write!(f, "user {user:02x} holds it, reads {one} and {other}")
+    }
+}
+
+// Where a line of the text begins.
+fn line(y: usize) -> Point {
+    Point::at(LEFT, y)
+}
+
+// A heading. Gives the height of the line below it.
+pub(crate) fn heading(page: &mut Page, y: usize, words: &str) -> Height {
+    let at = line(y);
+    shapes::text(page, Class::Plain(Look::Heading), at, words)?;
+    Ok(at.down(LINE + 2).y)
+}
+
+// A text: its first words, and then the roles of a set, or what is said of none. Gives the height below
+// it.
+fn roles<D: Display + Drop>(page: &mut Page, y: usize, words: D, set: u64, none: &str) -> Height {
+    let at = line(y);
+    shapes::begin_text(page, Class::Plain(Look::Text), at)?;
+    page.write(words)?;
     if set == 0 {
-        page::text(rt, out, at, none);
-    } else {
-        last = roles(rt, out, at, set, y);
+        page.write_str(none)?;
     }
-    shapes::end_text(rt, out, at);
-    numbers::plus(last, LINE)
+    let mut names = Names::new(Point::at(LEFT + 16, y), ON_A_LINE);
+    for r in Members(set) {
+        names.put(page, Name::Role(r))?;
+    }
+    shapes::end_text(page)?;
+    Ok(names.height().saturating_add(LINE))
 }
 
-// A constraint's role set for flow h.
-fn role_set(
-    rt: HostRuntime,
-    out: &mut [u8; ROOM],
-    at: &mut usize,
-    h: usize,
-    set: u64,
-    y: usize,
-) -> usize {
-    shapes::begin_text(rt, out, at, b'n', LEFT, y);
-    page::text(rt, out, at, b"role set for flow ");
-    page::hex(rt, out, at, h, 2);
-    page::byte(rt, out, at, b':');
-    roles_or(rt, out, at, set, b" none", y)
-}
-
-// The role sets of flow g of session s: one for each flow up to itself.
-fn role_sets(
-    rt: HostRuntime,
-    out: &mut [u8; ROOM],
-    at: &mut usize,
-    rolesets: &[u64; Engine::ROLE_SETS],
-    s: usize,
-    g: usize,
-    y: usize,
-) -> usize {
+// A constraint's role sets: one for each flow up to its own. Gives the height below them.
+fn role_sets(page: &mut Page, flow: &Flow, y: usize) -> Height {
     let mut now = y;
-    let mut h = 0;
-    while h < Engine::FLOWS {
-        if h <= g {
-            let set = lent::row(rolesets, numbers::set_place(s, g, h));
-            now = role_set(rt, out, at, h, set, now);
+    for (h, set) in flow.constraint.roles.iter().enumerate() {
+        if h <= flow.number {
+            let words = format_args!("role set for flow {h:02x}:");
+            now = roles(page, now, words, *set, " none")?;
         }
-        h += 1;
     }
-    now
+    Ok(now)
 }
 
-// The version at a place.
-fn version_at(versions: &[Version; Engine::PLACES], i: usize) -> usize {
-    if Engine::PLACES <= i {
-        return 0;
-    }
-    width(versions[i])
+// The constraint of a flow: its version, whom it denies, its role sets. Gives the height below it.
+pub(crate) fn constraint(page: &mut Page, flow: &Flow, y: usize) -> Height {
+    let at = line(y);
+    flows::title(page, flow, at)?;
+    let version = flow.constraint.version;
+    let words = format_args!("version {version:08x}");
+    let beside = Point::at(LEFT + 62, y);
+    shapes::text(page, Class::Plain(Look::Text), beside, words)?;
+    let deny = flow.constraint.deny;
+    let next = roles(page, at.down(LINE).y, "denies:", deny, " nobody")?;
+    let last = role_sets(page, flow, next)?;
+    Ok(last.saturating_add(6))
 }
 
-fn width(v: Version) -> usize {
-    v as usize
+// The first two flows that a user with these roles reads.
+fn two_readings(session: &Session, held: u64) -> Option<(Reading, Reading)> {
+    let mut readings = session
+        .flows()
+        .iter()
+        .filter_map(|flow| Reading::of(flow, held));
+    Some((readings.next()?, readings.next()?))
 }
 
-// A constraint's first line: its flow and its version.
-fn version(
-    rt: HostRuntime,
-    out: &mut [u8; ROOM],
-    at: &mut usize,
-    g: usize,
-    version: usize,
-    y: usize,
-) {
-    shapes::flow_name(rt, out, at, g, LEFT, y);
-    shapes::begin_text(rt, out, at, b'n', LEFT + 62, y);
-    page::text(rt, out, at, b"version ");
-    page::hex(rt, out, at, version, 8);
-    shapes::end_text(rt, out, at);
-}
-
-// Its second line: whom it denies. Gives the height below it.
-fn denial(rt: HostRuntime, out: &mut [u8; ROOM], at: &mut usize, deny: u64, y: usize) -> usize {
-    shapes::begin_text(rt, out, at, b'n', LEFT, y);
-    page::text(rt, out, at, b"denies:");
-    roles_or(rt, out, at, deny, b" nobody", y)
-}
-
-// The constraint of flow g of session s. Gives the height below it.
-pub(crate) fn constraint<'a>(
-    rt: HostRuntime,
-    out: &mut [u8; ROOM],
-    at: &mut usize,
-    versions: &'a [Version; Engine::PLACES],
-    denies: &'a [u64; Engine::PLACES],
-    rolesets: &'a [u64; Engine::ROLE_SETS],
-    s: usize,
-    g: usize,
-    y: usize,
-) -> usize {
-    let i = numbers::place(s, g);
-    version(rt, out, at, g, version_at(versions, i), y);
-    let next = denial(rt, out, at, lent::row(denies, i), numbers::plus(y, LINE));
-    let last = role_sets(rt, out, at, rolesets, s, g, next);
-    numbers::plus(last, 6)
-}
-
-// The first flow from number `from` on that a user with these roles reads, or the number of all flows.
-fn flow_from(may: &[u64; Engine::FLOWS], held: u64, from: usize) -> usize {
-    let mut g = from;
-    while g < Engine::FLOWS {
-        if sets::meets(held, may[g]) {
-            return g;
+// Why role c conflicts: the first user who holds it and reads two flows, and the first two of these.
+fn why(session: &Session, c: usize) -> Option<Reason> {
+    for (user, held) in session.tables.roles.iter().enumerate() {
+        if sets::contains(*held, c)
+            && let Some((one, other)) = two_readings(session, *held)
+        {
+            return Some(Reason { user, one, other });
         }
-        g += 1;
     }
-    Engine::FLOWS
+    None
 }
 
-// Whether a user with these roles holds c and reads two flows.
-fn is_reason(may: &[u64; Engine::FLOWS], held: u64, c: usize) -> bool {
-    if !sets::contains(held, c) {
-        return false;
-    }
-    let g = flow_from(may, held, 0);
-    flow_from(may, held, numbers::plus(g, 1)) < Engine::FLOWS
-}
-
-// The first user for whose sake role c conflicts, or the number of all users.
-fn reason<'a>(roles: &'a [u64; Engine::USERS], may: &'a [u64; Engine::FLOWS], c: usize) -> usize {
-    let mut u = 0;
-    while u < Engine::USERS {
-        if is_reason(may, lent::row(roles, u), c) {
-            return u;
-        }
-        u += 1;
-    }
-    Engine::USERS
-}
-
-// A flow, and the role by which a user with these roles reads it.
-fn by_role(
-    rt: HostRuntime,
-    out: &mut [u8; ROOM],
-    at: &mut usize,
-    may: &[u64; Engine::FLOWS],
-    held: u64,
-    g: usize,
-) {
-    page::text(rt, out, at, b"flow ");
-    page::hex(rt, out, at, g, 2);
-    page::text(rt, out, at, b" by ");
-    let readers = sets::intersection(held, lent::row(may, g));
-    page::named(rt, out, at, b'R', numbers::lowest(readers));
-}
-
-// Role c, and a user who holds it.
-fn holder(rt: HostRuntime, out: &mut [u8; ROOM], at: &mut usize, c: usize, u: usize) {
-    page::named(rt, out, at, b'R', c);
-    page::text(rt, out, at, b": user ");
-    page::hex(rt, out, at, u, 2);
-    page::text(rt, out, at, b" holds it, reads ");
-}
-
-// The two flows that a user with these roles reads first, with the roles.
-fn two_flows(
-    rt: HostRuntime,
-    out: &mut [u8; ROOM],
-    at: &mut usize,
-    may: &[u64; Engine::FLOWS],
-    held: u64,
-) {
-    let g = flow_from(may, held, 0);
-    by_role(rt, out, at, may, held, g);
-    page::text(rt, out, at, b" and ");
-    by_role(
-        rt,
-        out,
-        at,
-        may,
-        held,
-        flow_from(may, held, numbers::plus(g, 1)),
-    );
-}
-
-// Why role c conflicts: one user who holds it, and two flows that this user reads.
-fn why<'a>(
-    rt: HostRuntime,
-    out: &mut [u8; ROOM],
-    at: &mut usize,
-    roles: &'a [u64; Engine::USERS],
-    may: &'a [u64; Engine::FLOWS],
-    c: usize,
-    y: usize,
-) -> usize {
-    let u = reason(roles, may, c);
-    shapes::begin_text(rt, out, at, b'n', LEFT, y);
-    holder(rt, out, at, c, u);
-    two_flows(rt, out, at, may, lent::row(roles, u));
-    shapes::end_text(rt, out, at);
-    numbers::plus(y, LINE)
-}
-
-// Why each of these roles conflicts. Gives the height below it.
-pub(crate) fn reasons<'a>(
-    rt: HostRuntime,
-    out: &mut [u8; ROOM],
-    at: &mut usize,
-    roles: &'a [u64; Engine::USERS],
-    may: &'a [u64; Engine::FLOWS],
-    conflicts: u64,
-    y: usize,
-) -> usize {
+// Why each role conflicts that does. Gives the height below it.
+pub(crate) fn reasons(page: &mut Page, session: &Session, y: usize) -> Height {
     let mut now = y;
-    let mut c = 0;
-    while c < Engine::ROLES {
-        if sets::contains(conflicts, c) {
-            now = why(rt, out, at, roles, may, c, now);
+    for c in Members(session.conflicts) {
+        if let Some(reason) = why(session, c) {
+            let role = Name::Role(c);
+            let words = format_args!("{role}: {reason}");
+            shapes::text(page, Class::Plain(Look::Text), line(now), words)?;
+            now = now.saturating_add(LINE);
         }
-        c += 1;
     }
-    now
+    Ok(now)
 }
 
 // The roles that have two colours or more and don't conflict.
-fn cleared<'a>(
-    roles: &'a [u64; Engine::USERS],
-    may: &'a [u64; Engine::FLOWS],
-    conflicts: u64,
-) -> u64 {
-    let mut found = 0;
-    let mut o = 0;
-    while o < Engine::ROLES {
-        if overlaps::is_coloured(may, lent::parents(roles, sets::insert(0, o))) {
-            found = sets::insert(found, o);
-        }
-        o += 1;
-    }
-    sets::difference(found, conflicts)
+fn cleared(session: &Session) -> u64 {
+    let coloured = (0..Engine::ROLES)
+        .filter(|o| Overlap::of(session, *o).is_coloured(session))
+        .fold(0, sets::insert);
+    sets::difference(coloured, session.conflicts)
 }
 
 // Says of them that they don't. Gives the height below it.
-pub(crate) fn clearings<'a>(
-    rt: HostRuntime,
-    out: &mut [u8; ROOM],
-    at: &mut usize,
-    roles: &'a [u64; Engine::USERS],
-    may: &'a [u64; Engine::FLOWS],
-    conflicts: u64,
-    y: usize,
-) -> usize {
-    let set = cleared(roles, may, conflicts);
+pub(crate) fn clearings(page: &mut Page, session: &Session, y: usize) -> Height {
+    let set = cleared(session);
     if set == 0 {
-        return y;
+        return Ok(y);
     }
-    let next = heading(
-        rt,
-        out,
-        at,
-        numbers::plus(y, 14),
-        b"Lines of two flows, and no conflict",
-    );
-    shapes::words(
-        rt,
-        out,
-        at,
-        b'n',
-        LEFT,
-        next,
-        b"Nobody who holds the role reads two flows:",
-    );
-    let last = numbers::plus(next, LINE);
-    shapes::begin_text(rt, out, at, b'n', LEFT, last);
-    roles_or(rt, out, at, set, b"", last)
+    let words = "Lines of two flows, and no conflict";
+    let next = heading(page, line(y).down(14).y, words)?;
+    let at = line(next);
+    let words = "Nobody who holds the role reads two flows:";
+    shapes::text(page, Class::Plain(Look::Text), at, words)?;
+    roles(page, at.down(LINE).y, "", set, "")
 }

@@ -1,273 +1,167 @@
-// The picture of a session, from an engine's lent arrays.
-use super::page::ROOM;
-use super::{flows, legend, numbers, overlaps, page, panel, shapes, users};
-use model::{Engine, Version};
-use tables::lent;
+// The picture of a session.
+ghost use Rattle.std.specs.Prelude.{◌<◌, ◌≤◌};
+ghost use Rattle.model.specs.Limits.{flow_count};
+ghost use Rattle.model.specs.State.{all_sessions};
+
+use super::arguments::Asked;
+use super::flows::Flow;
+use super::page::{Height, Page};
+use super::shapes::{Class, Look, Point};
+use super::{flows, legend, overlaps, panel, shapes, users};
+use model::{Engine, Sessions};
+use std::fmt;
+use tables::Tables;
 
 // Where the columns begin.
 const TOP: usize = 84;
 
-// The root at a place.
-fn root_at(roots: &[usize; Engine::PLACES], i: usize) -> usize {
-    if Engine::PLACES <= i {
-        return 0;
-    }
-    roots[i]
+// An open session, as a picture shows it.
+#[derive(Clone, Copy)]
+pub(crate) struct Session<'a> {
+    pub(crate) tables: &'a Tables,
+    // As many flows as it has, and then others that are none.
+    flows: [Flow; Engine::FLOWS],
+    count: usize,
+    // The roles that conflict today.
+    pub(crate) conflicts: u64,
+    ghost count_le_flow_count: { count ≤ flow_count },
 }
 
-// Where the band of each of the session's n flows begins.
-fn tops<'a>(
-    reaches: &'a [u64; Engine::PLACES],
-    may: &'a [u64; Engine::FLOWS],
-    s: usize,
-    n: usize,
-) -> [usize; Engine::FLOWS] {
-    let mut found = [0usize; Engine::FLOWS];
-    let mut y = TOP;
-    let mut g = 0;
-    while g < Engine::FLOWS {
-        found[g] = y;
-        if g < n {
-            y = flows::below(y, lent::row(reaches, numbers::place(s, g)), may[g]);
-        }
-        g += 1;
+// Flow g of session s, with the roles that may read it, as if it had the first band.
+fn flow_of(kept: &Sessions, s: usize, g: usize, may: u64) -> Flow
+    requires s_lt_all_sessions { s < all_sessions }
+    requires g_lt_flow_count { g < flow_count }
+{
+    let at = s * Engine::FLOWS + g;
+    Flow {
+        number: g,
+        root: kept.roots[at],
+        reach: kept.reaches[at],
+        may,
+        constraint: values::shown(*kept, s, g).constraint,
+        top: TOP,
     }
-    found
+}
+
+impl<'a> Session<'a> {
+    // Session s of an engine, where it is open. It has its number among those of both products.
+    pub(crate) fn of(engine: &'a Engine, s: usize) -> Option<Session<'a>> {
+        let tables = &engine.directory.tables;
+        let kept = &engine.sessions;
+        if Engine::ALL_SESSIONS <= s || !sets::contains(kept.opened, s) {
+            return None;
+        }
+        // It is no more than that anyway; here the bound is seen without the definition of the count.
+        let count = today::flows_today(&kept.counts, s).min(Engine::FLOWS);
+        let may = graph::roles_by_flow(&tables.readers, &kept.reaches, s, count, 0);
+        let mut flows = std::array::from_fn(|g| flow_of(kept, s, g, may[g]));
+        let mut top = TOP;
+        for flow in flows.iter_mut() {
+            flow.top = top;
+            top = flow.below();
+        }
+        Some(Session {
+            tables,
+            flows,
+            count,
+            conflicts: today::conflicts_today(
+                &tables.roles,
+                &tables.readers,
+                &kept.counts,
+                &kept.reaches,
+                s,
+            ),
+        })
+    }
+
+    pub(crate) fn flows(&self) -> &[Flow] {
+        &self.flows[..self.count]
+    }
+
+    // The roles that the last flow's constraint denies.
+    pub(crate) fn denied(&self) -> u64 {
+        let last = self.flows().last();
+        last.map_or(0, |flow| flow.constraint.deny)
+    }
+
+    // The roles that may read some flow.
+    fn readers(&self) -> u64 {
+        self.flows()
+            .iter()
+            .fold(0, |all, flow| sets::union(all, flow.may))
+    }
 }
 
 // The bands. Gives the height below them.
-fn bands<'a>(
-    rt: HostRuntime,
-    out: &mut [u8; ROOM],
-    at: &mut usize,
-    readers: &'a [u64; Engine::DATABASES],
-    forwards: &'a [u64; Engine::DATABASES],
-    roots: &'a [usize; Engine::PLACES],
-    reaches: &'a [u64; Engine::PLACES],
-    may: &'a [u64; Engine::FLOWS],
-    s: usize,
-    n: usize,
-) -> usize {
-    let mut y = TOP;
-    let mut g = 0;
-    while g < Engine::FLOWS {
-        if g < n {
-            let i = numbers::place(s, g);
-            let reach = lent::row(reaches, i);
-            flows::flow(
-                rt,
-                out,
-                at,
-                readers,
-                forwards,
-                g,
-                root_at(roots, i),
-                reach,
-                may[g],
-                y,
-            );
-            y = flows::below(y, reach, may[g]);
-        }
-        g += 1;
+fn bands(page: &mut Page, session: &Session) -> Height {
+    for flow in session.flows() {
+        flows::draw(page, session.tables, flow)?;
     }
-    y
+    Ok(session.flows().last().map_or(TOP, |flow| flow.below()))
 }
 
 // The constraints. Gives the height below them.
-fn constraints<'a>(
-    rt: HostRuntime,
-    out: &mut [u8; ROOM],
-    at: &mut usize,
-    versions: &'a [Version; Engine::PLACES],
-    denies: &'a [u64; Engine::PLACES],
-    rolesets: &'a [u64; Engine::ROLE_SETS],
-    s: usize,
-    n: usize,
-) -> usize {
-    let mut y = panel::heading(rt, out, at, TOP, b"Constraints");
-    let mut g = 0;
-    while g < Engine::FLOWS {
-        if g < n {
-            y = panel::constraint(rt, out, at, versions, denies, rolesets, s, g, y);
-        }
-        g += 1;
+fn constraints(page: &mut Page, session: &Session) -> Height {
+    let mut y = panel::heading(page, TOP, "Constraints")?;
+    for flow in session.flows() {
+        y = panel::constraint(page, flow, y)?;
     }
-    y
+    Ok(y)
 }
 
 // Which roles conflict today, and why. Gives the height below it.
-fn conflicting<'a>(
-    rt: HostRuntime,
-    out: &mut [u8; ROOM],
-    at: &mut usize,
-    roles: &'a [u64; Engine::USERS],
-    may: &'a [u64; Engine::FLOWS],
-    conflicts: u64,
-    y: usize,
-) -> usize {
-    if conflicts == 0 {
-        let next = panel::heading(rt, out, at, numbers::plus(y, 8), b"No role conflicts today");
-        return panel::clearings(rt, out, at, roles, may, conflicts, next);
-    }
-    let next = panel::heading(
-        rt,
-        out,
-        at,
-        numbers::plus(y, 8),
-        b"Why roles conflict today",
-    );
-    let last = panel::reasons(rt, out, at, roles, may, conflicts, next);
-    panel::clearings(rt, out, at, roles, may, conflicts, last)
-}
-
-// All roles that may read some flow.
-fn readers_of_all(may: &[u64; Engine::FLOWS]) -> u64 {
-    let mut found = 0;
-    let mut g = 0;
-    while g < Engine::FLOWS {
-        found = sets::union(found, may[g]);
-        g += 1;
-    }
-    found
+fn conflicting(page: &mut Page, session: &Session, y: usize) -> Height {
+    let words = if session.conflicts == 0 {
+        "No role conflicts today"
+    } else {
+        "Why roles conflict today"
+    };
+    let next = panel::heading(page, y.saturating_add(8), words)?;
+    let last = panel::reasons(page, session, next)?;
+    panel::clearings(page, session, last)
 }
 
 // The lists of users and the marks, below all columns. Gives the height of the picture.
-fn foot(
-    rt: HostRuntime,
-    out: &mut [u8; ROOM],
-    at: &mut usize,
-    roles: &[u64; Engine::USERS],
-    all: u64,
-    y: usize,
-) -> usize {
-    let next = users::notes(rt, out, at, roles, all, numbers::plus(y, 30));
-    legend::marks(rt, out, at, numbers::plus(next, 10))
-}
-
-// The overlapping roles. Gives the height below them.
-fn squares<'a>(
-    rt: HostRuntime,
-    out: &mut [u8; ROOM],
-    at: &mut usize,
-    roles: &'a [u64; Engine::USERS],
-    reaches: &'a [u64; Engine::PLACES],
-    denies: &'a [u64; Engine::PLACES],
-    may: &'a [u64; Engine::FLOWS],
-    conflicts: u64,
-    s: usize,
-    n: usize,
-) -> usize {
-    let starts = tops(reaches, may, s, n);
-    let denied = lent::row(denies, numbers::place(s, numbers::less(n, 1)));
-    overlaps::overlapping_roles(rt, out, at, roles, may, &starts, conflicts, denied, TOP)
+fn foot(page: &mut Page, session: &Session, y: usize) -> Height {
+    let roles = &session.tables.roles;
+    let next = users::notes(page, roles, session.readers(), y.saturating_add(30))?;
+    legend::marks(page, next.saturating_add(10))
 }
 
 // What stands below the title of a session without flows. Gives the height of the picture.
-fn empty(rt: HostRuntime, out: &mut [u8; ROOM], at: &mut usize) -> usize {
-    shapes::words(
-        rt,
-        out,
-        at,
-        b'n',
-        24,
-        70,
-        b"The session is open and has no flows.",
-    );
-    100
+fn empty(page: &mut Page) -> Height {
+    let words = "The session is open and has no flows.";
+    shapes::text(page, Class::Plain(Look::Text), Point::at(24, 70), words)?;
+    Ok(100)
 }
 
 // All that stands below the title. Gives the height of the picture.
-fn whole<'a>(
-    rt: HostRuntime,
-    out: &mut [u8; ROOM],
-    at: &mut usize,
-    roles: &'a [u64; Engine::USERS],
-    readers: &'a [u64; Engine::DATABASES],
-    forwards: &'a [u64; Engine::DATABASES],
-    counts: &'a [usize; Engine::ALL_SESSIONS],
-    roots: &'a [usize; Engine::PLACES],
-    reaches: &'a [u64; Engine::PLACES],
-    versions: &'a [Version; Engine::PLACES],
-    denies: &'a [u64; Engine::PLACES],
-    rolesets: &'a [u64; Engine::ROLE_SETS],
-    s: usize,
-) -> usize {
-    let n = today::flows_today(counts, s);
-    if n == 0 {
-        return empty(rt, out, at);
+fn whole(page: &mut Page, session: &Session) -> Height {
+    if session.flows().is_empty() {
+        return empty(page);
     }
-    let conflicts = today::conflicts_today(roles, readers, counts, reaches, s);
-    let may = graph::roles_by_flow(readers, reaches, s, n, 0);
-    legend::columns(rt, out, at, TOP - 14);
-    let left = bands(rt, out, at, readers, forwards, roots, reaches, &may, s, n);
-    let right = squares(rt, out, at, roles, reaches, denies, &may, conflicts, s, n);
-    let text = constraints(rt, out, at, versions, denies, rolesets, s, n);
-    let beside = conflicting(rt, out, at, roles, &may, conflicts, text);
-    let lowest = numbers::greater(numbers::greater(left, right), beside);
-    foot(rt, out, at, roles, readers_of_all(&may), lowest)
+    legend::columns(page, TOP - 14)?;
+    let left = bands(page, session)?;
+    let right = overlaps::overlapping_roles(page, session, TOP)?;
+    let text = constraints(page, session)?;
+    let beside = conflicting(page, session, text)?;
+    foot(page, session, left.max(right).max(beside))
 }
 
-// Whose session it is.
-fn title(rt: HostRuntime, out: &mut [u8; ROOM], at: &mut usize, s: usize) {
-    shapes::begin_text(rt, out, at, b't', 24, 36);
-    if s < Engine::SESSIONS {
-        page::text(rt, out, at, b"The server's session ");
-    } else {
-        page::text(rt, out, at, b"The term bank's session ");
-    }
-    page::hex(rt, out, at, s % Engine::SESSIONS, 2);
-    shapes::end_text(rt, out, at);
-}
-
-// The first turn only measures; the second one writes, and knows the height.
-fn begin(
-    rt: HostRuntime,
-    out: &mut [u8; ROOM],
-    at: &mut usize,
-    turn: usize,
-    height: usize,
-    s: usize,
-) {
-    if turn == 0 {
-        *at = page::MUTE;
-        return;
-    }
-    *at = 0;
-    legend::begin(rt, out, at, height);
-    title(rt, out, at, s);
-}
-
-fn end(rt: HostRuntime, out: &mut [u8; ROOM], at: &mut usize) {
-    legend::end(rt, out, at);
-    page::flush(rt, out, at);
-}
-
-// Writes the picture of session s, which has its number among those of both products. It is gone through
-// twice, since its height stands at its start.
-pub(crate) fn show<'a>(
-    rt: HostRuntime,
-    roles: &'a [u64; Engine::USERS],
-    readers: &'a [u64; Engine::DATABASES],
-    forwards: &'a [u64; Engine::DATABASES],
-    counts: &'a [usize; Engine::ALL_SESSIONS],
-    roots: &'a [usize; Engine::PLACES],
-    reaches: &'a [u64; Engine::PLACES],
-    versions: &'a [Version; Engine::PLACES],
-    denies: &'a [u64; Engine::PLACES],
-    rolesets: &'a [u64; Engine::ROLE_SETS],
-    s: usize,
-) {
-    let mut out = [0u8; ROOM];
-    let mut at = 0usize;
-    let mut height = 0usize;
-    let mut turn = 0usize;
-    while turn < 2 {
-        begin(rt, &mut out, &mut at, turn, height, s);
-        height = whole(
-            rt, &mut out, &mut at, roles, readers, forwards, counts, roots, reaches, versions,
-            denies, rolesets, s,
-        );
-        turn += 1;
-    }
-    end(rt, &mut out, &mut at);
+// Writes the picture of the session that was asked for. It is measured before, since its height stands at
+// its start.
+pub(crate) fn show(rt: HostRuntime, asked: Asked, session: &Session) -> fmt::Result {
+    let height = whole(&mut Page::measured(), session)?;
+    let mut page = Page::written(rt);
+    legend::begin(&mut page, height)?;
+    let words = format_args!("The {asked}");
+    shapes::text(
+        &mut page,
+        Class::Plain(Look::Title),
+        Point::at(24, 36),
+        words,
+    )?;
+    whole(&mut page, session)?;
+    legend::end(&mut page)?;
+    page.flush()
 }

@@ -1,199 +1,187 @@
 // The shapes of the picture. Colours and widths are in the style that stands at its start: a shape has a
 // class of one letter, and where it is of a flow, the same with the flow's number.
-use super::page;
-use super::page::ROOM;
+use super::names::Name;
+use super::page::Page;
+use std::fmt;
+use std::fmt::{Display, Write};
 
-// The classes of a shape of flow g.
-fn class(rt: HostRuntime, out: &mut [u8; ROOM], at: &mut usize, letter: u8, g: usize) {
-    page::text(rt, out, at, b" class='");
-    page::byte(rt, out, at, letter);
-    page::byte(rt, out, at, b' ');
-    page::named(rt, out, at, letter, g);
-    page::byte(rt, out, at, b'\'');
+#[derive(Clone, Copy)]
+pub(crate) struct Point {
+    pub(crate) x: usize,
+    pub(crate) y: usize,
 }
 
-// Where a rectangle stands, and how large it is.
-fn bounds(
-    rt: HostRuntime,
-    out: &mut [u8; ROOM],
-    at: &mut usize,
-    x: usize,
-    y: usize,
-    width: usize,
-    height: usize,
-) {
-    page::number(rt, out, at, b"x", x);
-    page::number(rt, out, at, b"y", y);
-    page::number(rt, out, at, b"width", width);
-    page::number(rt, out, at, b"height", height);
+// A rectangle: its upper left corner, and how large it is.
+#[derive(Clone, Copy)]
+pub(crate) struct Area {
+    pub(crate) corner: Point,
+    pub(crate) width: usize,
+    pub(crate) height: usize,
 }
 
-// A rectangle of flow g.
-pub(crate) fn rectangle(
-    rt: HostRuntime,
-    out: &mut [u8; ROOM],
-    at: &mut usize,
-    letter: u8,
-    g: usize,
-    x: usize,
-    y: usize,
-    width: usize,
-    height: usize,
-) {
-    page::text(rt, out, at, b"<rect");
-    class(rt, out, at, letter, g);
-    bounds(rt, out, at, x, y, width, height);
-    page::text(rt, out, at, b"/>\n");
+// How a shape or a text looks.
+#[derive(Clone, Copy)]
+pub(crate) enum Look {
+    // Of a flow: its band, a border, that of a root, a line, the head of an arrow, and texts in its
+    // colour, as a heading and small.
+    Band,
+    Border,
+    Root,
+    Line,
+    Head,
+    FlowHeading,
+    FlowText,
+    // Of no flow: texts, as the title, a heading, plain, around their place, and so in white; squares,
+    // empty, grey and filled.
+    Title,
+    Heading,
+    Text,
+    Middle,
+    White,
+    Empty,
+    Grey,
+    Filled,
 }
 
-// A rectangle of no flow.
-pub(crate) fn plain(
-    rt: HostRuntime,
-    out: &mut [u8; ROOM],
-    at: &mut usize,
-    letter: u8,
-    x: usize,
-    y: usize,
-    width: usize,
-    height: usize,
-) {
-    page::text(rt, out, at, b"<rect class='");
-    page::byte(rt, out, at, letter);
-    page::byte(rt, out, at, b'\'');
-    bounds(rt, out, at, x, y, width, height);
-    page::text(rt, out, at, b"/>\n");
+// A look, and the number of the flow whose colour it has.
+#[derive(Clone, Copy)]
+pub(crate) enum Class {
+    Plain(Look),
+    Of(Look, usize),
+}
+
+// A part of a line: where it begins, where it goes straight, and the three points of a curve.
+#[derive(Clone, Copy)]
+pub(crate) enum Step {
+    Start(Point),
+    Straight(Point),
+    Curve(Point, Point, Point),
+}
+
+impl Point {
+    pub(crate) fn at(x: usize, y: usize) -> Point {
+        Point { x, y }
+    }
+
+    pub(crate) fn down(self, n: usize) -> Point {
+        Point::at(self.x, self.y.saturating_add(n))
+    }
+
+    pub(crate) fn up(self, n: usize) -> Point {
+        Point::at(self.x, self.y.saturating_sub(n))
+    }
+}
+
+impl Area {
+    // A square around its middle.
+    pub(crate) fn around(middle: Point, side: usize) -> Area {
+        let left = middle.x.saturating_sub(side / 2);
+        Area {
+            corner: Point::at(left, middle.y).up(side / 2),
+            width: side,
+            height: side,
+        }
+    }
+}
+
+impl Display for Point {
+    fn fmt<W: Write>(&self, f: &mut fmt::Formatter<W>) -> fmt::Result {
+        write!(f, "{} {}", self.x, self.y)
+    }
+}
+
+impl Display for Area {
+    fn fmt<W: Write>(&self, f: &mut fmt::Formatter<W>) -> fmt::Result {
+        let Point { x, y } = self.corner;
+        let width = self.width;
+        let height = self.height;
+        write!(f, "x='{x}' y='{y}' width='{width}' height='{height}'")
+    }
+}
+
+impl Display for Look {
+    fn fmt<W: Write>(&self, f: &mut fmt::Formatter<W>) -> fmt::Result {
+        f.write_str(match *self {
+            Look::Band => "b",
+            Look::Border => "d",
+            Look::Root => "r",
+            Look::Line => "e",
+            Look::Head => "a",
+            Look::FlowHeading => "i",
+            Look::FlowText => "j",
+            Look::Title => "t",
+            Look::Heading => "h",
+            Look::Text => "n",
+            Look::Middle => "m",
+            Look::White => "w",
+            Look::Empty => "k",
+            Look::Grey => "p",
+            Look::Filled => "x",
+        })
+    }
+}
+
+impl Display for Class {
+    fn fmt<W: Write>(&self, f: &mut fmt::Formatter<W>) -> fmt::Result {
+        match *self {
+            Class::Plain(look) => write!(f, "class='{look}'"),
+            Class::Of(look, g) => write!(f, "class='{look} {look}{g:x}'"),
+        }
+    }
+}
+
+impl Display for Step {
+    fn fmt<W: Write>(&self, f: &mut fmt::Formatter<W>) -> fmt::Result {
+        match *self {
+            Step::Start(to) => write!(f, "M{to}"),
+            Step::Straight(to) => write!(f, "L{to}"),
+            Step::Curve(one, other, to) => write!(f, "C{one} {other} {to}"),
+        }
+    }
+}
+
+pub(crate) fn rectangle(page: &mut Page, class: Class, area: Area) -> fmt::Result {
+    writeln!(page, "<rect {class} {area}/>")
 }
 
 // A circle of flow g.
-pub(crate) fn circle(
-    rt: HostRuntime,
-    out: &mut [u8; ROOM],
-    at: &mut usize,
-    g: usize,
-    x: usize,
-    y: usize,
-    radius: usize,
-) {
-    page::text(rt, out, at, b"<circle");
-    class(rt, out, at, b'd', g);
-    page::number(rt, out, at, b"cx", x);
-    page::number(rt, out, at, b"cy", y);
-    page::number(rt, out, at, b"r", radius);
-    page::text(rt, out, at, b"/>\n");
+pub(crate) fn circle(page: &mut Page, g: usize, middle: Point, radius: usize) -> fmt::Result {
+    let class = Class::Of(Look::Border, g);
+    let Point { x, y } = middle;
+    writeln!(page, "<circle {class} cx='{x}' cy='{y}' r='{radius}'/>")
 }
 
-// A line of flow g begins; points follow, and then its end. It is filled where its letter is a.
-pub(crate) fn begin_path(
-    rt: HostRuntime,
-    out: &mut [u8; ROOM],
-    at: &mut usize,
-    letter: u8,
-    g: usize,
-) {
-    page::text(rt, out, at, b"<path");
-    class(rt, out, at, letter, g);
-    page::text(rt, out, at, b" d='");
+pub(crate) fn path(page: &mut Page, class: Class, steps: &[Step]) -> fmt::Result {
+    write!(page, "<path {class} d='")?;
+    for step in steps {
+        write!(page, "{step}")?;
+    }
+    page.write_str("'/>\n")
 }
 
-// A point of a line: M where it begins, L where it goes straight, C for the three points of a curve.
-pub(crate) fn point(
-    rt: HostRuntime,
-    out: &mut [u8; ROOM],
-    at: &mut usize,
-    letter: u8,
-    x: usize,
-    y: usize,
-) {
-    page::byte(rt, out, at, letter);
-    page::decimal(rt, out, at, x);
-    page::byte(rt, out, at, b' ');
-    page::decimal(rt, out, at, y);
+// A text begins; what it says follows, and then its end.
+pub(crate) fn begin_text(page: &mut Page, class: Class, at: Point) -> fmt::Result {
+    let Point { x, y } = at;
+    write!(page, "<text {class} x='{x}' y='{y}'>")
 }
 
-pub(crate) fn end_path(rt: HostRuntime, out: &mut [u8; ROOM], at: &mut usize) {
-    page::text(rt, out, at, b"'/>\n");
-}
-
-// A text begins: t is the title, h a heading, n plain, m stands around its place, and so does w, in white.
-pub(crate) fn begin_text(
-    rt: HostRuntime,
-    out: &mut [u8; ROOM],
-    at: &mut usize,
-    letter: u8,
-    x: usize,
-    y: usize,
-) {
-    page::text(rt, out, at, b"<text class='");
-    page::byte(rt, out, at, letter);
-    page::byte(rt, out, at, b'\'');
-    page::number(rt, out, at, b"x", x);
-    page::number(rt, out, at, b"y", y);
-    page::byte(rt, out, at, b'>');
-}
-
-// A text in the colour of flow g begins: i is a heading, j small.
-pub(crate) fn begin_text_of(
-    rt: HostRuntime,
-    out: &mut [u8; ROOM],
-    at: &mut usize,
-    letter: u8,
-    g: usize,
-    x: usize,
-    y: usize,
-) {
-    page::text(rt, out, at, b"<text");
-    class(rt, out, at, letter, g);
-    page::number(rt, out, at, b"x", x);
-    page::number(rt, out, at, b"y", y);
-    page::byte(rt, out, at, b'>');
-}
-
-pub(crate) fn end_text(rt: HostRuntime, out: &mut [u8; ROOM], at: &mut usize) {
-    page::text(rt, out, at, b"</text>\n");
-}
-
-// The name of flow g, in its colour.
-pub(crate) fn flow_name(
-    rt: HostRuntime,
-    out: &mut [u8; ROOM],
-    at: &mut usize,
-    g: usize,
-    x: usize,
-    y: usize,
-) {
-    begin_text_of(rt, out, at, b'i', g, x, y);
-    page::text(rt, out, at, b"Flow ");
-    page::hex(rt, out, at, g, 2);
-    end_text(rt, out, at);
+pub(crate) fn end_text(page: &mut Page) -> fmt::Result {
+    page.write_str("</text>\n")
 }
 
 // A whole text.
-pub(crate) fn words(
-    rt: HostRuntime,
-    out: &mut [u8; ROOM],
-    at: &mut usize,
-    letter: u8,
-    x: usize,
-    y: usize,
-    text: &[u8],
-) {
-    begin_text(rt, out, at, letter, x, y);
-    page::text(rt, out, at, text);
-    end_text(rt, out, at);
+pub(crate) fn text<D: Display + Drop>(
+    page: &mut Page,
+    class: Class,
+    at: Point,
+    words: D,
+) -> fmt::Result {
+    begin_text(page, class, at)?;
+    page.write(words)?;
+    end_text(page)
 }
 
-// The name of a role or a database, in the middle of its shape.
-pub(crate) fn label(
-    rt: HostRuntime,
-    out: &mut [u8; ROOM],
-    at: &mut usize,
-    class: u8,
-    letter: u8,
-    n: usize,
-    x: usize,
-    y: usize,
-) {
-    begin_text(rt, out, at, class, x, y);
-    page::named(rt, out, at, letter, n);
-    end_text(rt, out, at);
+// A name in the middle of its shape.
+pub(crate) fn label(page: &mut Page, look: Look, middle: Point, name: Name) -> fmt::Result {
+    text(page, Class::Plain(look), middle.down(5), name)
 }
