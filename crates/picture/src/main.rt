@@ -19,7 +19,7 @@ mod users;
 use arguments::Wrong;
 use model::Engine;
 use session::Session;
-use taking::BUFFER;
+use taking::{BUFFER, Input};
 
 // How many lines are carried out: those before, and one for each of the answers in the first n bytes.
 fn carried_out(lines: u64, answers: &[u8], n: usize) -> u64 {
@@ -30,26 +30,22 @@ fn carried_out(lines: u64, answers: &[u8], n: usize) -> u64 {
 // Carries out all frames of standard input. Their answers are dropped. Whether the input was read to its
 // end; where it wasn't, that is said.
 fn carry_out(rt: HostRuntime, engine: &mut Engine) -> bool {
-    let mut input = [0u8; BUFFER];
+    let mut input = Input::new();
     let mut output = [0u8; BUFFER];
     let mut source = rt.stdin();
-    let mut held = taking::nothing();
-    while 0 < held.turns {
-        let rest = taking::part(&input, held.from, held.filled);
-        let fed = frames::feed(engine, rest, &mut output);
-        let lines = carried_out(held.lines, &output, fed.written);
-        held = taking::next(
+    while 0 < input.held.turns {
+        let fed = frames::feed(engine, input.part(), &mut output);
+        let lines = carried_out(input.held.lines, &output, fed.written);
+        input.next(
             rt,
             &mut source,
-            &mut input,
-            held,
             fed.consumed,
             lines,
             true,
             b"picture: lines after line ",
         );
     }
-    held.is_open
+    input.held.is_open
 }
 
 // Reads the frames and writes the picture of the session that is asked for.

@@ -4,8 +4,8 @@ use mathlib.Core.Path.{◌≡◌}
 use lib.ListN.{length}
 use Rattle.picture.proofs.carry_out.Given as goal
 
-abbrev pub invariant-loop-held : goal.invariant-loop-held
-invariant-loop-held l = 65536 ≡ length l.output
+abbrev pub invariant-loop-input : goal.invariant-loop-input
+invariant-loop-input l = 65536 ≡ length l.output
 
-abbrev pub decreases-loop-held : goal.decreases-loop-held
-decreases-loop-held l = l.held.turns
+abbrev pub decreases-loop-input : goal.decreases-loop-input
+decreases-loop-input l = l.input.held.turns
