@@ -113,6 +113,7 @@ pub extern "C" fn linkage_keep(buffer: &mut [u8], from: usize, to: usize) -> usi
 // At the end of input, where this many bytes are left of a line: its answer at the start of `out`, and how long that is.
 // Nothing is left, or there is no room: 0.
 #[unsafe(no_mangle)]
+#[tactic(auto, unfolding(crate::specs::Bytes::length_of))]
 pub extern "C" fn linkage_finish(left: usize, out: &mut [u8]) -> usize
     ensures { (result ≡ length_of (end_answer out.old 0 (ending left))) × (out.new ≡ end_written out.old 0 (ending left)) }
 {
