@@ -9,7 +9,6 @@ use native.Mathlib.Nat.{add-zero, add-suc, add_assoc, not-suc-le-zero}
 use native.Mathlib.Numerals.{add-one}
 use native.Mathlib.Decide.{dec_lt}
 use native.Mathlib.Omega.{arith}
-use lib.Bits.{bit_or, or_lt, or_add_and, and_le_l, and_le_r}
 use lib.Dec.{ltb, eqb, leb}
 use lib.ListN.{length, get_or, take, drop, set, replicate, length-drop, length-append, length-set, length-replicate, get_or-append}
 use lib.Pow.{pow-add, pow_mono}
@@ -18,15 +17,13 @@ use types.Run.{OneOf}
 use borrow.Author.Tests.{lt-ltb, le-ltb, eq-eqb, ne_eqb, le-leb, lt-leb, ltb-true, ltb-false, leb-true, eqb-true}
 use Rattle.sets.proofs.Laws.{and_both}
 use Rattle.model.specs.declared.calls.Call.{Call}
-use Rattle.model.specs.declared.calls.Call.TheVariants.{Unreadable}
 use Rattle.protocol.specs.Lines.{line_feed, rest_digits, called_by}
 use Rattle.kinds.specs.Kinds.{field_in}
 use Rattle.kinds.proofs.Laws.{no_kind, unknown}
 use Rattle.std.specs.Prelude.{Option, Some, None}
-use Rattle.kinds.specs.declared.Fields.{Fields}
 use Rattle.decoding.specs.declared.read.Rest.{Rest}
 use Rattle.decoding.specs.declared.read.Frame.{Frame}
-use Rattle.decoding.specs.Fields.{pair_at, pair_read, pairs_right, pairs_number, pairs_at, pairs_read, fields_read, ended_by, fields_of, one_field, two_fields, four_fields, set_pairs, chosen_set, addition, fields_by}
+use Rattle.decoding.specs.Fields.{pair_at, pair_read, pairs_right, pairs_number, pairs_at, pairs_read, fields_read, ended_by, fields_of, one_field, two_fields, four_fields, chosen_set, addition, fields_by}
 use Rattle.decoding.specs.Frames.{is_frame, frame_if, call_by, frame_by}
 
 -- a part of a list that runs to its end

@@ -1,7 +1,7 @@
 -- What the code reads by: a table of what each byte counts for as the first of two digits, and one for the second. These definitions hold for any two tables,
 -- so that nothing is asked of who lends them; `Frames` says what the tables of the digits make of an input. The meaning of a line is `call_of`, which uses none of it.
 -- Assumes nothing.
-use Rattle.std.specs.Prelude.{ℕ, zero, suc, ◌+◌, ◌*◌, ◌/◌, Bool, true, false, cond, ◌&&◌, Option, Some, None, List, [], ◌∷◌, ◌++◌, eqb, ltb, length, get_or, drop}
+use Rattle.std.specs.Prelude.{ℕ, zero, suc, ◌+◌, ◌*◌, ◌/◌, Bool, true, cond, ◌&&◌, Option, Some, None, List, [], ◌∷◌, ◌++◌, eqb, ltb, length, get_or, drop}
 use Rattle.protocol.specs.Widths.{set_digits}
 use Rattle.protocol.specs.Lines.{line_feed, fields}
 use Rattle.decoding.specs.declared.read.Rest.{Rest}

@@ -52,6 +52,7 @@ pub(crate) fn with_feed(line: &[u8]) -> [u8; KEPT]
 }
 
 // A line with its line feed, at the start of an array, and how long it is.
+// Kept: nothing is allocated, so a line of no fixed length lies in an array of the greatest one.
 #[derive(Clone, Copy)]
 pub struct Framed {
     pub bytes: [u8; KEPT],

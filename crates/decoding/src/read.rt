@@ -44,13 +44,12 @@ fn pairs<const N: usize>(digits: &Digits, s: &[u8]) -> Option<[usize; N]>
 {
     let mut pairs = [0; N];
     for (i, pair) in pairs.iter_mut().enumerate() {
-        let number = two(digits, s, 2 * i)?;
-        *pair = number;
+        *pair = two(digits, s, 2 * i)?;
     }
     Some(pairs)
 }
 
-// The same of a rest that a line feed ends behind them.
+// The same, where a line feed stands behind them.
 fn fields<const N: usize>(digits: &Digits, s: &[u8]) -> Option<[usize; N]>
     requires { N ≤ 4 }
     ensures { result ≡ fields_read digits.now.high digits.now.low s.now N }
@@ -98,8 +97,8 @@ fn fields_and_set(digits: &Digits, s: &[u8]) -> Option<Rest>
     })
 }
 
-// The fields of a frame of this kind, of whose rest the input is. Where the kind is not of digits, it
-// falls among the unknown ones. As in `kinds::call_of`, the kinds of the two products share an arm.
+// The fields of a frame of this kind, of whose rest the input is. As in `kinds::call_of`, the kinds of the
+// two products share an arm, and a kind is a number.
 fn fields_of(digits: &Digits, s: &[u8], kind: u64) -> Option<Rest>
     ensures { result ≡ fields_by digits.now.high digits.now.low s.now (rest_digits kind) }
 {

@@ -50,7 +50,12 @@ impl Digits {
     pub fn pair(&self, first: u8, second: u8) -> Option<usize>
         ensures { result ≡ pair_by self.now.high self.now.low first second }
     {
-        let number = usize::from(self.high[usize::from(first)]) + usize::from(self.low[usize::from(second)]);
-        if number < 256 { Some(number) } else { None }
+        let high = usize::from(self.high[usize::from(first)]);
+        let low = usize::from(self.low[usize::from(second)]);
+        if high + low < 256 {
+            Some(high + low)
+        } else {
+            None
+        }
     }
 }

@@ -1,4 +1,4 @@
-use mathlib.Core.Path.{◌≡◌, ◌∙◌}
+use mathlib.Core.Path.{◌∙◌}
 use native.Mathlib.Omega.{arith}
 use Rattle.decoding.specs.Fields.{addition}
 use Rattle.decoding.proofs.Reading.{to_end_long, too_short, no_feed, addition_none, addition_unset, addition_some}

@@ -1,7 +1,7 @@
-use mathlib.Core.Path.{◌≡◌, sym, ap, ◌∙◌}
+use mathlib.Core.Path.{◌≡◌, sym}
 use mathlib.Core.List.{List, [], ◌∷◌, ◌++◌}
 use Prim.Native.Nat.{ℕ}
-use lib.ListN.{length, take, length-append}
+use lib.ListN.{take}
 use Rattle.std.specs.Prelude.{Option}
 use Rattle.protocol.specs.Lines.{line_feed}
 use Rattle.protocol.proofs.Laws.{longer}

@@ -1,4 +1,4 @@
-use mathlib.Core.Path.{◌≡◌, sym, ◌∙◌}
+use mathlib.Core.Path.{sym, ◌∙◌}
 use native.Mathlib.Omega.{arith}
 use Rattle.decoding.proofs.Reading.{sofar_start, sofar_step, sofar_fits, sofar_end, set_none}
 use Rattle.decoding.proofs.read.role_set.Goals as goal
