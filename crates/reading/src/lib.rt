@@ -17,13 +17,13 @@ fn links(rolesets: &[u64; Engine::ROLE_SETS], deny: u64, held: u64, at: usize) -
     requires { at < place_count }
     ensures { result ≡ linkable role_count flow_count held deny (λ g. get_or rolesets.now (at * flow_count + g) 0) }
 {
+    let first = at * Engine::FLOWS;
+    let of_flow = &rolesets[first..first + Engine::FLOWS];
     let mut met = 0usize;
-    let mut g = 0usize;
-    while g < Engine::FLOWS {
-        if sets::meets(held, rolesets[at * Engine::FLOWS + g]) {
+    for set in of_flow {
+        if sets::meets(held, *set) {
             met += 1;
         }
-        g += 1;
     }
     sets::meets(held, deny) & (2 <= met)
 }
@@ -31,17 +31,21 @@ fn links(rolesets: &[u64; Engine::ROLE_SETS], deny: u64, held: u64, at: usize) -
 // 09 and 0e: user u reads flow f of session s at database d. The answer is its number, 0 where the read
 // is granted. The tests of the last four rows, and whether the read is by duty, are all made, with no
 // branch between them: mispredicted branches cost a read more than the tests do.
-pub fn number<'a>(
-    roles: &'a [u64; Engine::USERS],
-    readers: &'a [u64; Engine::DATABASES],
-    mandates: &'a [u64; Engine::DATABASES],
-    users: &'a [Version; Engine::USERS],
+//
+// Kept: the answer is a number and not the enum, which costs a read a quarter more and which the C
+// interface would turn into the number. The arrays come one by one, as that interface lends them.
+#[tactic(auto, unfolding(model::specs::Calls::read, model::specs::Calls::returned, model::specs::Calls::number_of))]
+pub fn number(
+    roles: &[u64; Engine::USERS],
+    readers: &[u64; Engine::DATABASES],
+    mandates: &[u64; Engine::DATABASES],
+    users: &[Version; Engine::USERS],
     opened: u64,
-    counts: &'a [usize; Engine::ALL_SESSIONS],
-    reaches: &'a [u64; Engine::PLACES],
-    versions: &'a [Version; Engine::PLACES],
-    denies: &'a [u64; Engine::PLACES],
-    rolesets: &'a [u64; Engine::ROLE_SETS],
+    counts: &[usize; Engine::ALL_SESSIONS],
+    reaches: &[u64; Engine::PLACES],
+    versions: &[Version; Engine::PLACES],
+    denies: &[u64; Engine::PLACES],
+    rolesets: &[u64; Engine::ROLE_SETS],
     u: usize,
     s: usize,
     f: usize,
@@ -78,17 +82,17 @@ pub fn number<'a>(
 }
 
 // The same read, answered as document 01 has it: granted, or refused with its row.
-pub fn read<'a>(
-    roles: &'a [u64; Engine::USERS],
-    readers: &'a [u64; Engine::DATABASES],
-    mandates: &'a [u64; Engine::DATABASES],
-    users: &'a [Version; Engine::USERS],
+pub fn read(
+    roles: &[u64; Engine::USERS],
+    readers: &[u64; Engine::DATABASES],
+    mandates: &[u64; Engine::DATABASES],
+    users: &[Version; Engine::USERS],
     opened: u64,
-    counts: &'a [usize; Engine::ALL_SESSIONS],
-    reaches: &'a [u64; Engine::PLACES],
-    versions: &'a [Version; Engine::PLACES],
-    denies: &'a [u64; Engine::PLACES],
-    rolesets: &'a [u64; Engine::ROLE_SETS],
+    counts: &[usize; Engine::ALL_SESSIONS],
+    reaches: &[u64; Engine::PLACES],
+    versions: &[Version; Engine::PLACES],
+    denies: &[u64; Engine::PLACES],
+    rolesets: &[u64; Engine::ROLE_SETS],
     u: usize,
     s: usize,
     f: usize,

@@ -11,25 +11,19 @@ ghost use Rattle.today.specs.Today.{flows_today, conflicts_today};
 use model::Engine;
 
 // How many flows session s has, which has its number among those of both products.
+#[tactic(auto, unfolding(crate::specs::Today::flows_today))]
 pub fn flows_today(counts: &[usize; Engine::ALL_SESSIONS], s: usize) -> usize
     ensures { (opened : ℕ) (roots reaches versions denies rolesets : List ℕ) → result ≡ flows_today (sessions_of opened counts.now roots reaches versions denies rolesets) s }
 {
-    if Engine::ALL_SESSIONS <= s {
-        return 0;
-    }
-    let n = counts[s];
-    if Engine::FLOWS <= n {
-        return Engine::FLOWS;
-    }
-    n
+    counts.get(s).copied().unwrap_or(0).min(Engine::FLOWS)
 }
 
 // The roles that conflict in session s today.
-pub fn conflicts_today<'a>(
-    roles: &'a [u64; Engine::USERS],
-    readers: &'a [u64; Engine::DATABASES],
-    counts: &'a [usize; Engine::ALL_SESSIONS],
-    reaches: &'a [u64; Engine::PLACES],
+pub fn conflicts_today(
+    roles: &[u64; Engine::USERS],
+    readers: &[u64; Engine::DATABASES],
+    counts: &[usize; Engine::ALL_SESSIONS],
+    reaches: &[u64; Engine::PLACES],
     s: usize,
 ) -> u64
     ensures { (opened : ℕ) (forwards mandates roots versions denies rolesets : List ℕ) → result ≡ conflicts_today (tables_of roles.now readers.now forwards mandates) (sessions_of opened counts.now roots reaches.now versions denies rolesets) s }

@@ -1,26 +1,37 @@
-use mathlib.Core.Path.{◌≡◌, sym, ◌∙◌}
+use Prim.Native.Nat.{ℕ, ◌+◌, ◌*◌, ◌<◌}
+use mathlib.Core.Path.{◌≡◌, sym, ap, ◌∙◌}
+use mathlib.Core.List.{List}
 use native.Mathlib.Omega.{arith}
-use Rattle.sets.proofs.Laws.{count_none, counted, uncounted}
+use lib.ListN.{get_or}
+use Rattle.std.proofs.lemmas.List.{get_or-take, get_or-drop}
+use Rattle.sets.specs.Sets.{count, meeting}
+use Rattle.sets.proofs.Laws.{count_none, count_cong, counted, uncounted}
+use Rattle.tables.specs.Tables.{role_count}
 use Rattle.model.specs.Limits.{flow_count}
 use Rattle.model.specs.State.{linkable}
 use Rattle.reading.proofs.links.Goals.{then-meets, else-meets}
 use Rattle.reading.proofs.links.Goals as goal
 
-pub loop-g-preserved : goal.loop-g-preserved
-loop-g-preserved c =
-    let i = c.loop-g.invariant in
+pub loop-set-init : goal.loop-set-init
+loop-set-init c = (omega arith, count_none _)
+
+pub loop-set-preserved : goal.loop-set-preserved
+loop-set-preserved c =
+    let i = c.loop-set.invariant in
     let meets = sym c.meets.ensures in
     elim c.if-meets.branch [
-      | then-meets w ↦ (omega arith, omega arith, counted _ _ _ i.2 (meets ∙ w.if-meets.true) ∙ sym w.met-is)
-      | else-meets w ↦ (omega arith, omega arith, uncounted _ _ _ i.2 (meets ∙ w.if-meets.false) ∙ sym w.met-is)
+      | then-meets w ↦ (omega arith, counted _ _ _ i.1 (meets ∙ w.if-meets.true) ∙ sym w.met-is)
+      | else-meets w ↦ (omega arith, uncounted _ _ _ i.1 (meets ∙ w.if-meets.false) ∙ sym w.met-is)
     ]
+
+-- those of the part that was looked at are those from the flow's first one on
+counted_part : (rolesets part : List ℕ) (held first i met : ℕ) → i ≡ flow_count → ((g : ℕ) → g < flow_count → get_or part g 0 ≡ get_or rolesets (first + g) 0)
+    → count i (λ g. meeting role_count held (get_or part g 0)) ≡ met → count flow_count (λ g. meeting role_count held (get_or rolesets (first + g) 0)) ≡ met
+counted_part rolesets part held first i met e same h =
+    sym (count_cong flow_count _ _ (λ g l. ap (meeting role_count held) (same g l))) ∙ rw e at h
 
 pub returns : goal.returns
 unfolding linkable
 returns c =
-    let e : c.loop-g.g ≡ flow_count = omega arith in
-    let h = rw e at c.loop-g.invariant.2 in
-    rw (h, c.meets-2.ensures)
-
-pub loop-g-init : goal.loop-g-init
-loop-g-init c = (omega arith, omega arith, count_none _)
+    let all = counted_part c.args.rolesets.now _ c.args.held (c.args.at * flow_count) _ _ (omega arith) (λ g l. get_or-take _ _ g 0 (omega arith) ∙ get_or-drop _ _ g 0) c.loop-set.invariant.1 in
+    rw (all, c.meets-2.ensures)
