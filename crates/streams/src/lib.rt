@@ -25,13 +25,15 @@ use std::{str, thread};
 
 // How many bytes are counted at once: so few that the count fits a byte, which lets the compiler count
 // many of them in one step.
+// Kept: one `filter` with `count` over the whole text takes a list of reads 16 in 100 more instructions.
 const BLOCK: usize = 128;
 
 // How many bytes of a reason there is room for: more than any has, with its number.
 const REASON: usize = 128;
 
 // The place that reads or writes have come to in their bytes, and why they came no further, where they
-// couldn't.
+// couldn't. Kept beside each other: whoever says the failure says it of that place, which a `Result` would
+// lose.
 #[derive(Clone, Copy)]
 pub struct Progress {
     pub end: usize,
