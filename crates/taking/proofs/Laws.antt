@@ -1,27 +1,22 @@
 -- The part of a buffer that is fed, and what is held after a turn.
 -- Assumes nothing.
-use Prim.Native.Nat.{ℕ, zero, suc, ◌+◌, ◌-◌, ◌≤◌, min}
+use Prim.Native.Nat.{ℕ, ◌+◌, ◌-◌, ◌≤◌, min}
 use mathlib.Core.Path.{◌≡◌, refl, sym, ap, ◌∙◌}
 use mathlib.Core.Bool.{Bool, true, false, true≢false}
-use mathlib.Core.List.{List, [], ◌∷◌, ◌++◌}
+use mathlib.Core.List.{List, ◌++◌}
 use native.Mathlib.Omega.{arith}
 use lib.ListN.{length, take, drop, length-append, length-take, length-drop}
-use lib.Seq.{take_all, take_at, take-nil}
+use lib.Seq.{take_all, take_at}
 use Rattle.protocol.specs.Run.{kept_of}
 use Rattle.pieces.specs.Pieces.{between}
 use Rattle.taking.specs.declared.Held.{Held}
 use Rattle.taking.specs.Taking.{place_behind, under_way, More, Begins, Next, Taken}
+use Rattle.std.proofs.BufReadLemmas.{drop-take_min}
 use Rattle.std.proofs.Common.{subst}
 use Rattle.std.specs.Io.KnownBytes.{Consumes}
 use Rattle.std.specs.declared.option.Option.{Option}
 
 -- ---- the part that is fed
-
-drop_take : (n m : ℕ) (l : List ℕ) → drop n (take m l) ≡ take (m - n) (drop n l)
-drop_take zero m l = let e : m - 0 ≡ m = omega arith in rw e
-drop_take (suc n) zero l = let e : 0 - suc n ≡ 0 = omega arith in rw e
-drop_take (suc n) (suc m) [] = rw take-nil
-drop_take (suc n) (suc m) (x ∷ l) = let e : suc m - suc n ≡ m - n = omega arith in rw e (drop_take n m l)
 
 pub part_is : (buffer : List ℕ) (place filled end from : ℕ) → end ≡ min filled (length buffer) → from ≡ min place (length (take end buffer)) → take (length (take end buffer) - from) (drop from (take end buffer)) ≡ between buffer place filled
 unfolding between
@@ -29,7 +24,7 @@ part_is buffer place filled end from p q =
     let n : length (take end buffer) ≡ end = length-take end buffer ∙ omega (arith, p) in
     let at : from ≡ min place (min filled (length buffer)) = omega (arith, p, q, n) in
     let all : length (drop from (take end buffer)) ≤ length (take end buffer) - from = rw length-drop (omega arith) in
-    take_all (length (take end buffer) - from) (drop from (take end buffer)) all ∙ drop_take from end buffer ∙ rw (p, at)
+    take_all (length (take end buffer) - from) (drop from (take end buffer)) all ∙ drop-take_min buffer end from from (omega (arith, q, n)) ∙ rw (p, at)
 
 -- ---- what is held after a turn
 

@@ -22,6 +22,8 @@ const SENTENCE: usize = 128;
 
 // What of the input is to be fed, from a place to the end of what is filled; how many lines are answered;
 // whether both streams are still open; and how many turns are left.
+// Kept as numbers and a flag: `Next` promises of each of them what it is after a turn, the number of lines
+// where a stream is closed too, and of the turns that each leaves fewer.
 #[derive(Clone, Copy)]
 pub struct Held {
     pub from: usize,
