@@ -14,19 +14,12 @@ use tables::lent;
 fn any_flow(counts: &[usize; Engine::ALL_SESSIONS]) -> bool
     ensures { result ≡ any_flow counts.now }
 {
-    let mut s = 0;
-    while s < Engine::ALL_SESSIONS {
-        if 0 < counts[s] {
-            return true;
-        }
-        s += 1;
-    }
-    false
+    counts.iter().any(|n| 0 < *n)
 }
 
 // 05: database d forwards to database e; `counts` tells how many flows each session of either product
 // has.
-pub fn forward<'a>(
+pub fn forward(
     forwards: &mut [u64; Engine::DATABASES],
     version: Version,
     counts: &[usize; Engine::ALL_SESSIONS],

@@ -10,7 +10,7 @@ use model::{Answer, Engine, Refusal, Version};
 use tables::lent;
 
 // 10: role r, which may read database d, has a mandate there. Nobody gets a new version.
-pub fn mandate<'a>(
+pub fn mandate(
     readers: &[u64; Engine::DATABASES],
     mandates: &mut [u64; Engine::DATABASES],
     version: Version,

@@ -3,8 +3,9 @@
 // `model` says. A session has here its number among those of both products, which `session_at` gives.
 #![tactic(auto)]
 
-ghost use Rattle.std.specs.Prelude.{◌≡◌, List, ℕ};
-ghost use Rattle.model.specs.State.{session_at, tables_of, sessions_of};
+ghost use Rattle.std.specs.Prelude.{◌≡◌, List, ℕ, ◌+◌, ◌*◌, get_or, replicate};
+ghost use Rattle.model.specs.Limits.{flow_count};
+ghost use Rattle.model.specs.State.{session_at, filled, tables_of, sessions_of};
 ghost use Rattle.model.specs.Calls.{done, open_session, conflicting, show};
 
 use model::{Answer, Engine, Product, Refusal, Version};
@@ -37,13 +38,13 @@ pub fn open_session(opened: &mut u64, version: Version, s: usize) -> Answer
 }
 
 // 07 and 0c: the conflicting roles of session s, with a flow of this root counted in but not added.
-pub fn conflicting<'a>(
-    roles: &'a [u64; Engine::USERS],
-    readers: &'a [u64; Engine::DATABASES],
-    forwards: &'a [u64; Engine::DATABASES],
+pub fn conflicting(
+    roles: &[u64; Engine::USERS],
+    readers: &[u64; Engine::DATABASES],
+    forwards: &[u64; Engine::DATABASES],
     opened: u64,
-    counts: &'a [usize; Engine::ALL_SESSIONS],
-    reaches: &'a [u64; Engine::PLACES],
+    counts: &[usize; Engine::ALL_SESSIONS],
+    reaches: &[u64; Engine::PLACES],
     s: usize,
     root: usize,
 ) -> Answer
@@ -87,4 +88,16 @@ pub fn show(opened: u64, counts: &[usize; Engine::ALL_SESSIONS], s: usize, f: us
         session: s,
         flow: f,
     }
+}
+
+// The role sets of the constraint at a place, one for each flow. Past the last place they are empty.
+pub fn sets_at(rolesets: &[u64; Engine::ROLE_SETS], at: usize) -> [u64; Engine::FLOWS]
+    ensures { result ≡ filled 0 (λ g. get_or rolesets.now (at * flow_count + g) 0) flow_count (replicate flow_count 0) }
+{
+    let mut sets = [0; Engine::FLOWS];
+    if at < Engine::PLACES {
+        let from = at * Engine::FLOWS;
+        sets.copy_from_slice(&rolesets[from..from + Engine::FLOWS]);
+    }
+    sets
 }
