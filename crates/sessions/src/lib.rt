@@ -1,6 +1,7 @@
 // What is asked of sessions, but for new flows, which are in `addition`. Each call is checked, carried
 // out in place on lent arrays and answered in one function, which promises what the call's definition in
 // `model` says. A session has here its number among those of both products, which `session_at` gives.
+// Kept: tests one below the other, as the refusal table has its rows, and no `?` behind them.
 #![tactic(auto)]
 
 ghost use Rattle.std.specs.Prelude.{◌≡◌, List, ℕ, ◌+◌, ◌*◌, get_or, replicate};
@@ -11,6 +12,8 @@ ghost use Rattle.model.specs.Calls.{done, open_session, conflicting, show};
 use model::{Answer, Engine, Product, Refusal, Version};
 
 // The number of a product's session among those of both; past them all where it is above its limit.
+// Kept: a number past the last and no `Option`, since row 2 of each call refuses it by its limit.
+#[tactic(auto, unfolding(model::specs::State::session_at, model::specs::State::first_of))]
 pub fn session_at(product: Product, session: usize) -> usize
     ensures { result ≡ session_at product session }
 {
@@ -24,6 +27,7 @@ pub fn session_at(product: Product, session: usize) -> usize
 }
 
 // 06 and 0b: session s is opened.
+#[tactic(auto, unfolding(model::specs::Calls::open_session))]
 pub fn open_session(opened: &mut u64, version: Version, s: usize) -> Answer
     ensures { (counts roots reaches versions denies rolesets : List ℕ) → done result (sessions_of opened.new counts roots reaches versions denies rolesets) ≡ open_session version (sessions_of opened.old counts roots reaches versions denies rolesets) s }
 {
@@ -69,6 +73,7 @@ pub fn conflicting(
 }
 
 // 0a and 0f: the constraint of flow f of session s is shown, where there is one.
+#[tactic(auto, unfolding(model::specs::Calls::show))]
 pub fn show(opened: u64, counts: &[usize; Engine::ALL_SESSIONS], s: usize, f: usize) -> Answer
     ensures { (roots reaches versions denies rolesets : List ℕ) → result ≡ show (sessions_of opened counts.now roots reaches versions denies rolesets) s f }
 {
