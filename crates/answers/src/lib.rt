@@ -42,7 +42,8 @@ pub fn has_place(a: Answer) -> bool
     }
 }
 
-// The place of the flow that an answer shows.
+// The place of the flow that an answer shows, and 0 where it shows none.
+// Kept: no `Option`, since a line is written from the parts of some place, whatever it shows.
 #[tactic(auto, unfolding(crate::specs::Answers::shown_place, model::specs::State::place))]
 pub fn shown_place(a: Answer) -> usize
     ensures value { result ≡ shown_place a }

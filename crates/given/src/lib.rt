@@ -61,6 +61,7 @@ pub fn tell(a: Answer, told: &mut Version) -> u64
 }
 
 // The product that a number stands for.
+// Kept: a number, since a caller in C has no other name for a product.
 #[tactic(auto, using(crate::proofs::Products::server_of, crate::proofs::Products::bank_of))]
 fn product_of(product: usize) -> Product
     ensures { result ≡ product_of product }
@@ -73,6 +74,7 @@ fn product_of(product: usize) -> Product
 }
 
 // The session, or one above its limit where there is no such product.
+// Kept: a number past the last, which a caller in C is given back, and row 2 refuses.
 #[tactic(auto, using(crate::proofs::Products::one_such, crate::proofs::Products::none_such))]
 fn session_of(product: usize, session: usize) -> usize
     ensures { result ≡ session_of product session }

@@ -14,6 +14,7 @@ use model::{Answer, Engine, Refusal, Version};
 use tables::lent;
 
 // The holders of role r get version v; whether there is one.
+// Kept: the index, which names a user in both arrays.
 fn renew(
     versions: &mut [Version; Engine::USERS],
     roles: &[u64; Engine::USERS],
