@@ -2,6 +2,7 @@
 // answered in one function, which promises what the call's definition in `model` says. Its work runs in
 // the order of `graph`: databases, roles, overlapping roles. A session has here its number among those
 // of both products.
+// Kept: tests one below the other, as the refusal table has its rows, and no `?` behind them.
 #![tactic(auto)]
 
 ghost use Rattle.std.specs.Prelude.{◌≡◌, List, ℕ, ◌<◌, ◌*◌};
@@ -26,22 +27,19 @@ fn deny_before(denies: &[u64; Engine::PLACES], s: usize, n: usize) -> u64
 }
 
 // The flow at this place gets these role sets, one for each flow.
-fn put_sets<'a>(rolesets: &mut [u64; Engine::ROLE_SETS], given: &[u64; Engine::FLOWS], at: usize)
+fn put_sets(rolesets: &mut [u64; Engine::ROLE_SETS], given: &[u64; Engine::FLOWS], at: usize)
     requires { at < place_count }
     ensures { rolesets.new ≡ sets_put given.now (at * flow_count) rolesets.old }
 {
-    let mut g = 0usize;
-    while g < Engine::FLOWS {
-        rolesets[at * Engine::FLOWS + g] = given[g];
-        g += 1;
-    }
+    let from = at * Engine::FLOWS;
+    rolesets[from..from + Engine::FLOWS].copy_from_slice(given);
 }
 
 // 08 and 0d: session s gets a flow of this root, with these roles chosen.
-pub fn add<'a>(
-    roles: &'a [u64; Engine::USERS],
-    readers: &'a [u64; Engine::DATABASES],
-    forwards: &'a [u64; Engine::DATABASES],
+pub fn add(
+    roles: &[u64; Engine::USERS],
+    readers: &[u64; Engine::DATABASES],
+    forwards: &[u64; Engine::DATABASES],
     version: Version,
     opened: u64,
     counts: &mut [usize; Engine::ALL_SESSIONS],

@@ -14,23 +14,7 @@ use model::{Answer, Engine, Refusal};
 fn number(why: Refusal) -> u64
     ensures { result ≡ number_of why }
 {
-    match why {
-        Refusal::Malformed => 1,
-        Refusal::AboveLimit => 2,
-        Refusal::AlreadyThere => 3,
-        Refusal::NotThere => 4,
-        Refusal::FlowAdded => 5,
-        Refusal::NotOpen => 6,
-        Refusal::SessionFull => 7,
-        Refusal::NotConflicting => 8,
-        Refusal::VersionsSpent => 9,
-        Refusal::NoSuchFlow => 10,
-        Refusal::OutOfReach => 11,
-        Refusal::NoPermission => 12,
-        Refusal::Changed => 13,
-        Refusal::Linkable => 14,
-        Refusal::Mandated => 15,
-    }
+    why as u64
 }
 
 // 0 for what is accepted, else the number refused.
@@ -40,46 +24,36 @@ pub fn returned(a: Answer) -> u64
 {
     match a {
         Answer::Refused(why) => number(why),
-        Answer::Version(_) => 0,
-        Answer::Roles(_) => 0,
-        Answer::Flow {
-            number: _,
-            reach: _,
-            version: _,
-        } => 0,
-        Answer::Granted => 0,
-        Answer::Constraint {
-            session: _,
-            flow: _,
-        } => 0,
+        _ => 0,
     }
 }
 
 // Whether the answer shows no constraint, or that of a flow that has a place. Its session has its number
 // among those of both products.
+#[tactic(auto, unfolding(crate::specs::Answers::has_place))]
 pub fn has_place(a: Answer) -> bool
     ensures { result ≡ has_place a }
 {
-    if let Answer::Constraint { session, flow } = a {
-        if Engine::ALL_SESSIONS <= session {
-            return false;
+    match a {
+        Answer::Constraint { session, flow } => {
+            session < Engine::ALL_SESSIONS && flow < Engine::FLOWS
         }
-        return flow < Engine::FLOWS;
+        _ => true,
     }
-    true
 }
 
-// The place of the flow that an answer shows.
+// The place of the flow that an answer shows, and 0 where it shows none.
+// Kept: no `Option`, since a line is written from the parts of some place, whatever it shows.
+#[tactic(auto, unfolding(crate::specs::Answers::shown_place, model::specs::State::place))]
 pub fn shown_place(a: Answer) -> usize
     ensures value { result ≡ shown_place a }
     ensures upper_bound { result < place_count }
 {
-    if let Answer::Constraint { session, flow } = a {
-        if session < Engine::ALL_SESSIONS {
-            if flow < Engine::FLOWS {
-                return session * Engine::FLOWS + flow;
-            }
+    match a {
+        Answer::Constraint { session, flow }
+            if session < Engine::ALL_SESSIONS && flow < Engine::FLOWS => {
+            session * Engine::FLOWS + flow
         }
+        _ => 0,
     }
-    0
 }

@@ -1,5 +1,6 @@
 // The calls that change who holds which role. Each is checked, carried out in place on lent arrays and
 // answered in one function, which promises what the call's definition in `model` says.
+// Kept: tests one below the other, as the refusal table has its rows, and no `?` behind them.
 #![tactic(auto)]
 
 ghost use Rattle.std.specs.Prelude.{◌≡◌, List, ℕ};
@@ -11,6 +12,7 @@ use model::{Answer, Engine, Refusal, Version};
 use tables::lent;
 
 // 01: user u gets role r and a new version.
+#[tactic(auto, using(model::proofs::Laws::given_one), unfolding(model::specs::Calls::assign, tables::specs::Tables::assigned, tables::specs::Tables::with_roles, model::specs::State::new_version))]
 pub fn assign(
     roles: &mut [u64; Engine::USERS],
     versions: &mut [Version; Engine::USERS],
@@ -40,6 +42,7 @@ pub fn assign(
 }
 
 // 02: user u loses role r.
+#[tactic(auto, unfolding(model::specs::Calls::withdraw, tables::specs::Tables::withdrawn, tables::specs::Tables::with_roles))]
 pub fn withdraw(roles: &mut [u64; Engine::USERS], version: Version, u: usize, r: usize) -> Answer
     ensures { (readers forwards mandates versions : List ℕ) → done result (directory_of (tables_of roles.new readers forwards mandates) versions version) ≡ withdraw (directory_of (tables_of roles.old readers forwards mandates) versions version) u r }
 {

@@ -2,13 +2,14 @@
 // old struct is taken, also one that no calls lead to.
 #![tactic(auto)]
 
-ghost use Rattle.std.specs.Prelude.{◌≡◌, length};
+ghost use Rattle.std.specs.Prelude.{◌≡◌};
 ghost use Rattle.carrying.specs.Carrying.{carried_directory, carried_sessions, carried_over};
 
 use model::{Directory, Engine, Sessions, Version};
 use tables::Tables;
 
 // What versions were kept in.
+// Kept: the old structs stand by themselves, so that no change of today's reaches them.
 pub type OldVersion = u16;
 
 // Who held and might read what, and since when. The tables have the rows that they have today.
@@ -40,41 +41,29 @@ pub struct OldEngine {
     pub sessions: OldSessions,
 }
 
-// The same number, in a version of today.
-fn widen(v: OldVersion) -> Version
-    ensures { result ≡ v }
-{
-    v as Version
-}
-
-// The same numbers, each in a version of today.
-fn widened(old: &[OldVersion], wide: &mut [Version])
-    requires { length old.now ≡ length wide.old }
-    ensures { wide.new ≡ old.now }
-{
-    let mut i = 0usize;
-    while i < old.len() {
-        wide[i] = widen(old[i]);
-        i += 1;
-    }
-}
-
 // Each user's version and the system's, and the tables as they are.
 fn directory_of(old: OldDirectory) -> Directory
     ensures { result ≡ carried_directory old }
 {
-    let mut users = [0 as Version; Engine::USERS];
-    widened(&old.versions, &mut users);
+    let OldDirectory {
+        roles,
+        readers,
+        forwards,
+        mandates,
+        versions: narrow,
+        version,
+    } = old;
+    let users = narrow.map(|v| Version::from(v));
     let tables = Tables {
-        roles: old.roles,
-        readers: old.readers,
-        forwards: old.forwards,
-        mandates: old.mandates,
+        roles,
+        readers,
+        forwards,
+        mandates,
     };
     Directory {
         tables,
         versions: users,
-        version: widen(old.version),
+        version: Version::from(version),
     }
 }
 
@@ -82,16 +71,24 @@ fn directory_of(old: OldDirectory) -> Directory
 fn sessions_of(old: OldSessions) -> Sessions
     ensures { result ≡ carried_sessions old }
 {
-    let mut flows = [0 as Version; Engine::PLACES];
-    widened(&old.versions, &mut flows);
+    let OldSessions {
+        opened,
+        counts,
+        roots,
+        reaches,
+        versions: narrow,
+        denies,
+        rolesets,
+    } = old;
+    let flows = narrow.map(|v| Version::from(v));
     Sessions {
-        opened: old.opened,
-        counts: old.counts,
-        roots: old.roots,
-        reaches: old.reaches,
+        opened,
+        counts,
+        roots,
+        reaches,
         versions: flows,
-        denies: old.denies,
-        rolesets: old.rolesets,
+        denies,
+        rolesets,
     }
 }
 

@@ -1,6 +1,7 @@
 // The call that changes which database forwards to which. It is checked, carried out in place on lent
 // arrays and answered in one function, which promises what the call's definition in `model` says. A
 // session has here its number among those of both products.
+// Kept: tests one below the other, as the refusal table has its rows, and no `?` behind them.
 #![tactic(auto)]
 
 ghost use Rattle.std.specs.Prelude.{◌≡◌, List, ℕ};
@@ -14,19 +15,13 @@ use tables::lent;
 fn any_flow(counts: &[usize; Engine::ALL_SESSIONS]) -> bool
     ensures { result ≡ any_flow counts.now }
 {
-    let mut s = 0;
-    while s < Engine::ALL_SESSIONS {
-        if 0 < counts[s] {
-            return true;
-        }
-        s += 1;
-    }
-    false
+    counts.iter().any(|n| 0 < *n)
 }
 
 // 05: database d forwards to database e; `counts` tells how many flows each session of either product
 // has.
-pub fn forward<'a>(
+#[tactic(auto, unfolding(model::specs::Calls::forward, tables::specs::Tables::forwarded, tables::specs::Tables::with_forwards))]
+pub fn forward(
     forwards: &mut [u64; Engine::DATABASES],
     version: Version,
     counts: &[usize; Engine::ALL_SESSIONS],

@@ -9,86 +9,46 @@ ghost use Rattle.given.specs.Given.{product_of, session_of, version_or, roles_or
 use model::{Answer, Engine, Product, Version};
 
 // The version that an answer tells, or the old one where it tells none.
+#[tactic(auto, unfolding(crate::specs::Given::version_or))]
 pub fn version_or(a: Answer, old: Version) -> Version
     ensures { result ≡ version_or old a }
 {
     match a {
-        Answer::Version(x) => x,
-        Answer::Roles(_) => old,
-        Answer::Flow {
-            number: _,
-            reach: _,
-            version: x,
-        } => x,
-        Answer::Granted => old,
-        Answer::Constraint {
-            session: _,
-            flow: _,
-        } => old,
-        Answer::Refused(_) => old,
+        Answer::Version(version) | Answer::Flow { version, .. } => version,
+        _ => old,
     }
 }
 
 // The roles that an answer tells.
+#[tactic(auto, unfolding(crate::specs::Given::roles_or))]
 pub fn roles_or(a: Answer, old: u64) -> u64
     ensures { result ≡ roles_or old a }
 {
     match a {
-        Answer::Version(_) => old,
-        Answer::Roles(x) => x,
-        Answer::Flow {
-            number: _,
-            reach: _,
-            version: _,
-        } => old,
-        Answer::Granted => old,
-        Answer::Constraint {
-            session: _,
-            flow: _,
-        } => old,
-        Answer::Refused(_) => old,
+        Answer::Roles(roles) => roles,
+        _ => old,
     }
 }
 
 // The number of the flow that was added.
+#[tactic(auto, unfolding(crate::specs::Given::flow_or))]
 pub fn flow_or(a: Answer, old: usize) -> usize
     ensures { result ≡ flow_or old a }
 {
     match a {
-        Answer::Version(_) => old,
-        Answer::Roles(_) => old,
-        Answer::Flow {
-            number: x,
-            reach: _,
-            version: _,
-        } => x,
-        Answer::Granted => old,
-        Answer::Constraint {
-            session: _,
-            flow: _,
-        } => old,
-        Answer::Refused(_) => old,
+        Answer::Flow { number, .. } => number,
+        _ => old,
     }
 }
 
 // How many databases the flow reaches that was added.
+#[tactic(auto, unfolding(crate::specs::Given::size_or))]
 pub fn size_or(a: Answer, old: u32) -> u32
     ensures { result ≡ size_or old a }
 {
     match a {
-        Answer::Version(_) => old,
-        Answer::Roles(_) => old,
-        Answer::Flow {
-            number: _,
-            reach: x,
-            version: _,
-        } => x,
-        Answer::Granted => old,
-        Answer::Constraint {
-            session: _,
-            flow: _,
-        } => old,
-        Answer::Refused(_) => old,
+        Answer::Flow { reach, .. } => reach,
+        _ => old,
     }
 }
 
@@ -101,6 +61,7 @@ pub fn tell(a: Answer, told: &mut Version) -> u64
 }
 
 // The product that a number stands for.
+// Kept: a number, since a caller in C has no other name for a product.
 #[tactic(auto, using(crate::proofs::Products::server_of, crate::proofs::Products::bank_of))]
 fn product_of(product: usize) -> Product
     ensures { result ≡ product_of product }
@@ -113,6 +74,7 @@ fn product_of(product: usize) -> Product
 }
 
 // The session, or one above its limit where there is no such product.
+// Kept: a number past the last, which a caller in C is given back, and row 2 refuses.
 #[tactic(auto, using(crate::proofs::Products::one_such, crate::proofs::Products::none_such))]
 fn session_of(product: usize, session: usize) -> usize
     ensures { result ≡ session_of product session }

@@ -1,7 +1,6 @@
 // What is asked of sessions, and reads. A product is 0, the server, or 1, the term bank.
-ghost use Rattle.std.specs.Prelude.{◌≡◌, List, ℕ, ◌<◌, ◌+◌, ◌*◌, get_or, replicate};
-ghost use Rattle.model.specs.Limits.{flow_count};
-ghost use Rattle.model.specs.State.{place_count, session_at, filled, tables_of, directory_of, sessions_of, engine_of};
+ghost use Rattle.std.specs.Prelude.{◌≡◌, List, ℕ};
+ghost use Rattle.model.specs.State.{session_at, tables_of, directory_of, sessions_of, engine_of};
 ghost use Rattle.model.specs.declared.calls.Ask.TheVariants.{Open, Conflicting, Add};
 ghost use Rattle.model.specs.declared.calls.Call.TheVariants.{Session};
 ghost use Rattle.encoding.specs.Written.{constraint_of};
@@ -81,20 +80,6 @@ pub extern "C" fn linkage_lent_add<'a>(
     tell(a, told)
 }
 
-// The role sets of the constraint at a place.
-fn sets_at(rolesets: &[u64; Engine::ROLE_SETS], at: usize) -> [u64; Engine::FLOWS]
-    requires { at < place_count }
-    ensures { result ≡ filled 0 (λ g. get_or rolesets.now (at * flow_count + g) 0) flow_count (replicate flow_count 0) }
-{
-    let mut roles = [0u64; Engine::FLOWS];
-    let mut g = 0usize;
-    while g < Engine::FLOWS {
-        roles[g] = rolesets[at * Engine::FLOWS + g];
-        g += 1;
-    }
-    roles
-}
-
 // 0a and 0f: the constraint of the flow, with a role set for each of eight flows. In an engine that calls have led to,
 // those past the flow itself are empty.
 #[unsafe(no_mangle)]
@@ -122,8 +107,7 @@ pub extern "C" fn linkage_lent_show<'a>(
     let at = answers::shown_place(a);
     *told = versions[at];
     *deny = denies[at];
-    let roles = sets_at(rolesets, at);
-    *sets = roles;
+    *sets = sessions::sets_at(rolesets, at);
     n
 }
 

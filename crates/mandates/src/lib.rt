@@ -1,5 +1,6 @@
 // The call that puts a mandate on a permission. It is checked, carried out in place on lent arrays and
 // answered in one function, which promises what the call's definition in `model` says.
+// Kept: tests one below the other, as the refusal table has its rows, and no `?` behind them.
 #![tactic(auto)]
 
 ghost use Rattle.std.specs.Prelude.{◌≡◌, List, ℕ};
@@ -10,7 +11,8 @@ use model::{Answer, Engine, Refusal, Version};
 use tables::lent;
 
 // 10: role r, which may read database d, has a mandate there. Nobody gets a new version.
-pub fn mandate<'a>(
+#[tactic(auto, unfolding(model::specs::Calls::mandate, tables::specs::Tables::mandated, tables::specs::Tables::with_mandates))]
+pub fn mandate(
     readers: &[u64; Engine::DATABASES],
     mandates: &mut [u64; Engine::DATABASES],
     version: Version,

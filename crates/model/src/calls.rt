@@ -2,7 +2,7 @@
 use super::Version;
 
 // A change of the tables.
-#[derive(Clone, Copy)]
+#[derive(Clone, Copy, PartialEq, Eq, Debug)]
 pub enum Change {
     Assign { user: usize, role: usize },
     Withdraw { user: usize, role: usize },
@@ -13,14 +13,14 @@ pub enum Change {
 }
 
 // The products on one directory. Each has sessions of its own.
-#[derive(Clone, Copy)]
+#[derive(Clone, Copy, PartialEq, Eq, Debug)]
 pub enum Product {
     Server,
     TermBank,
 }
 
 // What is asked of a session.
-#[derive(Clone, Copy)]
+#[derive(Clone, Copy, PartialEq, Eq, Debug)]
 pub enum Ask {
     Open,
     Conflicting { root: usize },
@@ -29,7 +29,7 @@ pub enum Ask {
 }
 
 // A call, with the numbers of its frame, or what is no frame.
-#[derive(Clone, Copy)]
+#[derive(Clone, Copy, PartialEq, Eq, Debug)]
 pub enum Call {
     Table(Change),
     Session {
@@ -47,35 +47,35 @@ pub enum Call {
     Unreadable,
 }
 
-// The rows of the refusal table.
-#[derive(Clone, Copy)]
+// The rows of the refusal table, with their numbers.
+#[derive(Clone, Copy, PartialEq, Eq, Debug)]
 pub enum Refusal {
-    Malformed,
-    AboveLimit,
-    AlreadyThere,
-    NotThere,
-    FlowAdded,
-    NotOpen,
-    SessionFull,
-    NotConflicting,
-    VersionsSpent,
-    NoSuchFlow,
-    OutOfReach,
-    NoPermission,
-    Changed,
-    Linkable,
-    Mandated,
+    Malformed = 1,
+    AboveLimit = 2,
+    AlreadyThere = 3,
+    NotThere = 4,
+    FlowAdded = 5,
+    NotOpen = 6,
+    SessionFull = 7,
+    NotConflicting = 8,
+    VersionsSpent = 9,
+    NoSuchFlow = 10,
+    OutOfReach = 11,
+    NoPermission = 12,
+    Changed = 13,
+    Linkable = 14,
+    Mandated = 15,
 }
 
 // The answer to a read.
-#[derive(Clone, Copy)]
+#[derive(Clone, Copy, PartialEq, Eq, Debug)]
 pub enum Verdict {
     Granted,
     Refused(Refusal),
 }
 
 // The answer to any call.
-#[derive(Clone, Copy)]
+#[derive(Clone, Copy, PartialEq, Eq, Debug)]
 pub enum Answer {
     // The system version, to a change of the tables or an opening.
     Version(Version),

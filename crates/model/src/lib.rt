@@ -1,10 +1,13 @@
 // The linkage engine in definitions: what it keeps, what can be asked of it, what it answers, and
-// what is promised of that. There is no code here: the crate `engine` has it.
+// what is promised of that. There is no code here, but for how one type of answer is made of another:
+// the crate `engine` has it.
 #![tactic(auto)]
 
 mod calls;
+mod conversions;
 
 pub use calls::{Answer, Ask, Call, Change, Product, Refusal, Verdict};
+pub use conversions::NoSuchRow;
 use tables::Tables;
 
 // What versions are kept in.

@@ -1,5 +1,6 @@
 // The calls that change which role may read which database. Each is checked, carried out in place on
 // lent arrays and answered in one function, which promises what the call's definition in `model` says.
+// Kept: tests one below the other, as the refusal table has its rows, and no `?` behind them.
 #![tactic(auto)]
 
 ghost use Rattle.std.specs.Prelude.{◌≡◌, false, List, ℕ};
@@ -13,7 +14,8 @@ use model::{Answer, Engine, Refusal, Version};
 use tables::lent;
 
 // The holders of role r get version v; whether there is one.
-fn renew<'a>(
+// Kept: the index, which names a user in both arrays.
+fn renew(
     versions: &mut [Version; Engine::USERS],
     roles: &[u64; Engine::USERS],
     r: usize,
@@ -22,13 +24,11 @@ fn renew<'a>(
     ensures { (result ≡ held_by user_count roles.now r) × (versions.new ≡ given (λ u. there roles.now u r) v user_count versions.old) }
 {
     let mut held = false;
-    let mut u = 0;
-    while u < Engine::USERS {
+    for u in 0..Engine::USERS {
         if lent::there(roles, u, r) {
             versions[u] = v;
             held = true;
         }
-        u += 1;
     }
     held
 }
@@ -44,7 +44,7 @@ fn spent(roles: &[u64; Engine::USERS], version: Version, r: usize) -> bool
 }
 
 // A new version for the holders of role r, where there are any. At the last version there are none.
-fn to_holders<'a>(
+fn to_holders(
     roles: &[u64; Engine::USERS],
     versions: &mut [Version; Engine::USERS],
     version: &mut Version,
@@ -62,7 +62,7 @@ fn to_holders<'a>(
 }
 
 // 03: role r may read database d, and its holders get a new version.
-pub fn permit<'a>(
+pub fn permit(
     roles: &[u64; Engine::USERS],
     readers: &mut [u64; Engine::DATABASES],
     versions: &mut [Version; Engine::USERS],
@@ -91,7 +91,7 @@ pub fn permit<'a>(
 
 // 04: role r may not read database d any more, and its holders get a new version. A permission with a
 // mandate on it stays.
-pub fn revoke<'a>(
+pub fn revoke(
     roles: &[u64; Engine::USERS],
     readers: &mut [u64; Engine::DATABASES],
     mandates: &[u64; Engine::DATABASES],

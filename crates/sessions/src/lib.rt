@@ -1,15 +1,19 @@
 // What is asked of sessions, but for new flows, which are in `addition`. Each call is checked, carried
 // out in place on lent arrays and answered in one function, which promises what the call's definition in
 // `model` says. A session has here its number among those of both products, which `session_at` gives.
+// Kept: tests one below the other, as the refusal table has its rows, and no `?` behind them.
 #![tactic(auto)]
 
-ghost use Rattle.std.specs.Prelude.{◌≡◌, List, ℕ};
-ghost use Rattle.model.specs.State.{session_at, tables_of, sessions_of};
+ghost use Rattle.std.specs.Prelude.{◌≡◌, List, ℕ, ◌+◌, ◌*◌, get_or, replicate};
+ghost use Rattle.model.specs.Limits.{flow_count};
+ghost use Rattle.model.specs.State.{session_at, filled, tables_of, sessions_of};
 ghost use Rattle.model.specs.Calls.{done, open_session, conflicting, show};
 
 use model::{Answer, Engine, Product, Refusal, Version};
 
 // The number of a product's session among those of both; past them all where it is above its limit.
+// Kept: a number past the last and no `Option`, since row 2 of each call refuses it by its limit.
+#[tactic(auto, unfolding(model::specs::State::session_at, model::specs::State::first_of))]
 pub fn session_at(product: Product, session: usize) -> usize
     ensures { result ≡ session_at product session }
 {
@@ -23,6 +27,7 @@ pub fn session_at(product: Product, session: usize) -> usize
 }
 
 // 06 and 0b: session s is opened.
+#[tactic(auto, unfolding(model::specs::Calls::open_session))]
 pub fn open_session(opened: &mut u64, version: Version, s: usize) -> Answer
     ensures { (counts roots reaches versions denies rolesets : List ℕ) → done result (sessions_of opened.new counts roots reaches versions denies rolesets) ≡ open_session version (sessions_of opened.old counts roots reaches versions denies rolesets) s }
 {
@@ -37,13 +42,13 @@ pub fn open_session(opened: &mut u64, version: Version, s: usize) -> Answer
 }
 
 // 07 and 0c: the conflicting roles of session s, with a flow of this root counted in but not added.
-pub fn conflicting<'a>(
-    roles: &'a [u64; Engine::USERS],
-    readers: &'a [u64; Engine::DATABASES],
-    forwards: &'a [u64; Engine::DATABASES],
+pub fn conflicting(
+    roles: &[u64; Engine::USERS],
+    readers: &[u64; Engine::DATABASES],
+    forwards: &[u64; Engine::DATABASES],
     opened: u64,
-    counts: &'a [usize; Engine::ALL_SESSIONS],
-    reaches: &'a [u64; Engine::PLACES],
+    counts: &[usize; Engine::ALL_SESSIONS],
+    reaches: &[u64; Engine::PLACES],
     s: usize,
     root: usize,
 ) -> Answer
@@ -68,6 +73,7 @@ pub fn conflicting<'a>(
 }
 
 // 0a and 0f: the constraint of flow f of session s is shown, where there is one.
+#[tactic(auto, unfolding(model::specs::Calls::show))]
 pub fn show(opened: u64, counts: &[usize; Engine::ALL_SESSIONS], s: usize, f: usize) -> Answer
     ensures { (roots reaches versions denies rolesets : List ℕ) → result ≡ show (sessions_of opened counts.now roots reaches versions denies rolesets) s f }
 {
@@ -87,4 +93,16 @@ pub fn show(opened: u64, counts: &[usize; Engine::ALL_SESSIONS], s: usize, f: us
         session: s,
         flow: f,
     }
+}
+
+// The role sets of the constraint at a place, one for each flow. Past the last place they are empty.
+pub fn sets_at(rolesets: &[u64; Engine::ROLE_SETS], at: usize) -> [u64; Engine::FLOWS]
+    ensures { result ≡ filled 0 (λ g. get_or rolesets.now (at * flow_count + g) 0) flow_count (replicate flow_count 0) }
+{
+    let mut sets = [0; Engine::FLOWS];
+    if at < Engine::PLACES {
+        let from = at * Engine::FLOWS;
+        sets.copy_from_slice(&rolesets[from..from + Engine::FLOWS]);
+    }
+    sets
 }

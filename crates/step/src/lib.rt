@@ -5,23 +5,13 @@
 ghost use Rattle.std.specs.Prelude.{◌≡◌, List, ℕ};
 ghost use Rattle.model.specs.Limits.{last_version};
 ghost use Rattle.model.specs.State.{tables_of, directory_of, sessions_of, engine_of};
-ghost use Rattle.model.specs.Calls.{done, answer_of, change, ask, step};
+ghost use Rattle.model.specs.Calls.{done, change, ask, step};
 
-use model::{Answer, Ask, Call, Change, Engine, Refusal, Verdict, Version};
+use model::{Answer, Ask, Call, Change, Engine, Refusal, Version};
 pub use sessions::session_at;
 
-// The verdict on a read as an answer.
-fn answer_of(v: Verdict) -> Answer
-    ensures { result ≡ answer_of v }
-{
-    match v {
-        Verdict::Granted => Answer::Granted,
-        Verdict::Refused(why) => Answer::Refused(why),
-    }
-}
-
 // Any change of the tables.
-fn change<'a>(
+fn change(
     roles: &mut [u64; Engine::USERS],
     readers: &mut [u64; Engine::DATABASES],
     forwards: &mut [u64; Engine::DATABASES],
@@ -50,10 +40,10 @@ fn change<'a>(
 }
 
 // Anything that is asked of session s, which has its number among those of both products.
-fn ask<'a>(
-    roles: &'a [u64; Engine::USERS],
-    readers: &'a [u64; Engine::DATABASES],
-    forwards: &'a [u64; Engine::DATABASES],
+fn ask(
+    roles: &[u64; Engine::USERS],
+    readers: &[u64; Engine::DATABASES],
+    forwards: &[u64; Engine::DATABASES],
     version: Version,
     opened: &mut u64,
     counts: &mut [usize; Engine::ALL_SESSIONS],
@@ -133,7 +123,7 @@ pub fn step(
             flow,
             database,
         } => {
-            answer_of(reading::read(
+            Answer::from(reading::read(
                 roles,
                 readers,
                 mandates,

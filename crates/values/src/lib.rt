@@ -2,12 +2,12 @@
 // A session has here its number among those of both products.
 #![tactic(auto)]
 
-ghost use Rattle.std.specs.Prelude.{◌≡◌, ◌<◌, replicate};
+ghost use Rattle.std.specs.Prelude.{◌≡◌, ◌<◌};
 ghost use Rattle.model.specs.Limits.{flow_count};
-ghost use Rattle.model.specs.State.{all_sessions, fresh, filled, roleset_at};
-ghost use Rattle.model.specs.Calls.{verdict_of, constraint_at, shown_at};
+ghost use Rattle.model.specs.State.{all_sessions, fresh};
+ghost use Rattle.model.specs.Calls.{constraint_at, shown_at};
 
-use model::{Answer, Constraint, Directory, Engine, Sessions, Shown, Verdict};
+use model::{Answer, Constraint, Directory, Engine, Sessions, Shown};
 
 // An engine with empty tables and no open session.
 pub fn fresh() -> Engine
@@ -34,54 +34,18 @@ pub fn fresh() -> Engine
     }
 }
 
-// Whether an answer accepts its call, or refuses it.
-fn verdict_of(a: Answer) -> Verdict
-    ensures { result ≡ verdict_of a }
-{
-    match a {
-        Answer::Version(_) => Verdict::Granted,
-        Answer::Roles(_) => Verdict::Granted,
-        Answer::Flow {
-            number: _,
-            reach: _,
-            version: _,
-        } => Verdict::Granted,
-        Answer::Granted => Verdict::Granted,
-        Answer::Constraint {
-            session: _,
-            flow: _,
-        } => Verdict::Granted,
-        Answer::Refused(why) => Verdict::Refused(why),
-    }
-}
-
-// The role sets of the constraint of flow f of session s.
-fn sets_at(rolesets: &[u64; Engine::ROLE_SETS], s: usize, f: usize) -> [u64; Engine::FLOWS]
-    requires s_lt_all_sessions { s < all_sessions }
-    requires f_lt_flow_count { f < flow_count }
-    ensures { result ≡ filled 0 (roleset_at rolesets.now s f) flow_count (replicate flow_count 0) }
-{
-    let mut roles = [0u64; Engine::FLOWS];
-    let mut g = 0usize;
-    while g < Engine::FLOWS {
-        roles[g] = rolesets[(s * Engine::FLOWS + f) * Engine::FLOWS + g];
-        g += 1;
-    }
-    roles
-}
-
 // The constraint of flow f of session s.
+#[tactic(auto, unfolding(model::specs::Calls::constraint_at, model::specs::State::place, model::specs::State::set_place, model::specs::State::roleset_at))]
 fn constraint_at(kept: Sessions, s: usize, f: usize) -> Constraint
     requires s_lt_all_sessions { s < all_sessions }
     requires f_lt_flow_count { f < flow_count }
     ensures { result ≡ constraint_at kept s f }
 {
     let at = s * Engine::FLOWS + f;
-    let roles = sets_at(&kept.rolesets, s, f);
     Constraint {
         version: kept.versions[at],
         deny: kept.denies[at],
-        roles,
+        roles: sessions::sets_at(&kept.rolesets, at),
     }
 }
 
@@ -90,9 +54,9 @@ pub fn shown(kept: Sessions, s: usize, f: usize) -> Shown
     ensures { result ≡ shown_at kept s f }
 {
     let answer = sessions::show(kept.opened, &kept.counts, s, f);
-    let constraint = match verdict_of(answer) {
-        Verdict::Granted => constraint_at(kept, s, f),
-        Verdict::Refused(_) => {
+    let constraint = match answer {
+        Answer::Constraint { .. } => constraint_at(kept, s, f),
+        _ => {
             Constraint {
                 version: 0,
                 deny: 0,

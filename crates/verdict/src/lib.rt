@@ -29,34 +29,19 @@ pub fn first_of(
 ) -> u64
     ensures { result ≡ returned (bar out_of_reach Refusal.OutOfReach (bar no_permission Refusal.NoPermission (cond by_duty Verdict.Granted (bar changed Refusal.Changed (bar linkable Refusal.Linkable Verdict.Granted))))) }
 {
-    let row14 = pick(linkable, 14, 0);
-    let row13 = pick(changed, 13, row14);
+    let row14 = pick(linkable, Refusal::Linkable as u64, 0);
+    let row13 = pick(changed, Refusal::Changed as u64, row14);
     let past12 = pick(by_duty, 0, row13);
-    let row12 = pick(no_permission, 12, past12);
-    pick(out_of_reach, 11, row12)
+    let row12 = pick(no_permission, Refusal::NoPermission as u64, past12);
+    pick(out_of_reach, Refusal::OutOfReach as u64, row12)
 }
 
 // The verdict that has this number.
 pub fn verdict_by(number: u64) -> Verdict
     ensures { result ≡ verdict_by number }
 {
-    match number {
-        0 => Verdict::Granted,
-        1 => Verdict::Refused(Refusal::Malformed),
-        2 => Verdict::Refused(Refusal::AboveLimit),
-        3 => Verdict::Refused(Refusal::AlreadyThere),
-        4 => Verdict::Refused(Refusal::NotThere),
-        5 => Verdict::Refused(Refusal::FlowAdded),
-        6 => Verdict::Refused(Refusal::NotOpen),
-        7 => Verdict::Refused(Refusal::SessionFull),
-        8 => Verdict::Refused(Refusal::NotConflicting),
-        9 => Verdict::Refused(Refusal::VersionsSpent),
-        10 => Verdict::Refused(Refusal::NoSuchFlow),
-        11 => Verdict::Refused(Refusal::OutOfReach),
-        12 => Verdict::Refused(Refusal::NoPermission),
-        13 => Verdict::Refused(Refusal::Changed),
-        14 => Verdict::Refused(Refusal::Linkable),
-        15 => Verdict::Refused(Refusal::Mandated),
-        16..=u64::MAX => Verdict::Refused(Refusal::Malformed),
+    if number == 0 {
+        return Verdict::Granted;
     }
+    Verdict::Refused(Refusal::try_from(number).unwrap_or(Refusal::Malformed))
 }

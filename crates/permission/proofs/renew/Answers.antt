@@ -19,18 +19,18 @@ passed p u held e h = rw (add-one u, some_suc u p, h, e) (or_none (some u p))
 
 pub loop-u-preserved : goal.loop-u-preserved
 loop-u-preserved c =
-    let i = c.loop-u.invariant in
+    let before = c.loop-u.invariant in
     let holds = sym c.there.ensures in
     elim c.if-there.branch [
-      | then-there w ↦ (omega arith, w.held-is ∙ found _ _ (holds ∙ w.if-there.true), w.versions-is ∙ given_more _ _ _ _ _ i.2 (holds ∙ w.if-there.true))
-      | else-there w ↦ (omega arith, w.held-is ∙ passed _ _ _ i.1 (holds ∙ w.if-there.false), w.versions-is ∙ given_same _ _ _ _ _ i.2 (holds ∙ w.if-there.false))
+      | then-there w ↦ (w.held-is ∙ found _ _ (holds ∙ w.if-there.true), w.versions-is ∙ given_more _ _ _ _ _ before.1 (holds ∙ w.if-there.true))
+      | else-there w ↦ (w.held-is ∙ passed _ _ _ before.0 (holds ∙ w.if-there.false), w.versions-is ∙ given_same _ _ _ _ _ before.1 (holds ∙ w.if-there.false))
     ]
 
 pub returns : goal.returns
 unfolding held_by
 returns c =
     let e : c.loop-u.u ≡ user_count = omega arith in
-    (rw e at c.loop-u.invariant.1, rw e at c.loop-u.invariant.2)
+    (rw e at c.loop-u.invariant.0, rw e at c.loop-u.invariant.1)
 
 pub loop-u-init : goal.loop-u-init
-loop-u-init c = (omega arith, sym (some_none _), given_start _ _ _)
+loop-u-init c = (sym (some_none _), given_start _ _ _)

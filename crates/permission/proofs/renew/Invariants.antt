@@ -8,7 +8,4 @@ use Rattle.model.specs.State.{given}
 use Rattle.permission.proofs.renew.Given as goal
 
 abbrev pub invariant-loop-u : goal.invariant-loop-u
-invariant-loop-u l = (l.u ≤ user_count) × (l.held ≡ some l.u (λ w. there l.roles w l.r)) × (l.versions ≡ given (λ w. there l.roles w l.r) l.v l.u l.initial.versions)
-
-abbrev pub decreases-loop-u : goal.decreases-loop-u
-decreases-loop-u l = user_count - l.u
+invariant-loop-u l = (l.held ≡ some l.u (λ w. there l.roles w l.r)) × (l.versions ≡ given (λ w. there l.roles w l.r) l.v l.u l.initial.versions)

@@ -14,7 +14,7 @@ returns-in-Session c = rw (c.in-Session.is, ← c.session_at.ensures) (of_sessio
 
 pub returns-in-Read : goal.returns-in-Read
 unfolding step
-returns-in-Read c = rw (c.in-Read.is, ← c.session_at-in-Read.ensures) (same_answer _ (c.answer_of.ensures ∙ ap answer_of (c.read.ensures _ _ _)))
+returns-in-Read c = rw (c.in-Read.is, ← c.session_at-in-Read.ensures) (same_answer _ (c.from.ensures ∙ ap answer_of (c.read.ensures _ _ _)))
 
 pub returns-in-Unreadable : goal.returns-in-Unreadable
 unfolding step

@@ -15,4 +15,4 @@ pub returns : goal.returns
 unfolding ask
 returns c =
     λ roles readers forwards mandates users roots reaches version.
-    shows _ _ _ _ _ _ _ c.number_of-s.ensures (of_session _ _ _ _ _ _ _ _ c.number_of-s.ensures (same_answer _ (c.show-a.ensures roots reaches _ _ _))) c.returned-n.ensures _ (omega arith) _ _ _ _ c.shown_place-at.ensures.value refl refl c.sets_at-roles.ensures
+    shows _ _ _ _ _ _ _ c.number_of-s.ensures (of_session _ _ _ _ _ _ _ _ c.number_of-s.ensures (same_answer _ (c.show-a.ensures roots reaches _ _ _))) c.returned-n.ensures _ (omega arith) _ _ _ _ c.shown_place-at.ensures.value refl refl c.sets_at.ensures
