@@ -1,9 +1,7 @@
 -- The holders among the users before u have their version, and `held` tells whether there is one.
-use Prim.Native.Nat.{◌-◌, ◌≤◌}
 use mathlib.Core.Path.{◌≡◌}
 use Rattle.sets.specs.Sets.{some}
 use Rattle.rows.specs.Rows.{there}
-use Rattle.tables.specs.Tables.{user_count}
 use Rattle.model.specs.State.{given}
 use Rattle.permission.proofs.renew.Given as goal
 
