@@ -3,49 +3,60 @@
 
 ghost use Rattle.std.specs.Prelude.{◌≡◌, List, ℕ};
 ghost use Rattle.model.specs.Limits.{last_version};
-ghost use Rattle.model.specs.State.{tables_of, directory_of};
-ghost use Rattle.model.specs.Calls.{done, assign};
+ghost use Rattle.model.specs.Calls.{done, step};
+ghost use Rattle.parts_try.specs.Parts.{lent, Same};
 
-use model::{Answer, Directory, Engine, Version};
+use model::{Answer, Call, Engine, Version};
 
-// Three of them.
+// An engine's parts.
 #[derive(Drop)]
 pub struct Parts<'a> {
     pub roles: &'a mut [u64; Engine::USERS],
-    pub versions: &'a mut [Version; Engine::USERS],
+    pub readers: &'a mut [u64; Engine::DATABASES],
+    pub forwards: &'a mut [u64; Engine::DATABASES],
+    pub mandates: &'a mut [u64; Engine::DATABASES],
+    pub users: &'a mut [Version; Engine::USERS],
     pub version: &'a mut Version,
+    pub opened: &'a mut u64,
+    pub counts: &'a mut [usize; Engine::ALL_SESSIONS],
+    pub roots: &'a mut [usize; Engine::PLACES],
+    pub reaches: &'a mut [u64; Engine::PLACES],
+    pub versions: &'a mut [Version; Engine::PLACES],
+    pub denies: &'a mut [u64; Engine::PLACES],
+    pub rolesets: &'a mut [u64; Engine::ROLE_SETS],
 }
 
-// A. by value, handing on each once, after a pattern
-pub fn by_pattern(p: Parts<'_>, u: usize, r: usize) -> Answer
-    ensures { (readers forwards mandates : List ℕ) → done result (directory_of (tables_of p.exit.0.now readers forwards mandates) p.exit.1.0.now p.exit.1.1.0.now) ≡ assign last_version (directory_of (tables_of p.entry.roles.now readers forwards mandates) p.entry.versions.now p.entry.version.now) u r }
+// By `&mut`.
+pub fn step_lent(p: &mut Parts<'_>, call: Call) -> Answer
+    ensures value { done result (lent p.new) ≡ step last_version (lent p.old) call }
+    ensures same { Same p.new p.old }
 {
-    let Parts { roles, versions, version } = p;
-    assignment::assign(roles, versions, version, u, r)
+    step::step(
+        p.roles, p.readers, p.forwards, p.mandates, p.users, p.version, p.opened, p.counts, p.roots,
+        p.reaches, p.versions, p.denies, p.rolesets, call,
+    )
 }
 
-// B. the same with moved fields in `let`s
-pub fn by_lets(p: Parts<'_>, u: usize, r: usize) -> Answer
-    ensures { (readers forwards mandates : List ℕ) → done result (directory_of (tables_of p.exit.0.now readers forwards mandates) p.exit.1.0.now p.exit.1.1.0.now) ≡ assign last_version (directory_of (tables_of p.entry.roles.now readers forwards mandates) p.entry.versions.now p.entry.version.now) u r }
+pub fn carry_lent(engine: &mut Engine, call: Call) -> Answer
+    ensures { done result engine.new ≡ step last_version engine.old call }
 {
-    let roles = p.roles;
-    let versions = p.versions;
-    let version = p.version;
-    assignment::assign(roles, versions, version, u, r)
-}
-
-// C. a caller
-pub fn lends(d: &mut Directory, u: usize, r: usize) -> Answer
-    ensures { done result d.new ≡ assign last_version d.old u r }
-{
-    let p = Parts { roles: &mut d.tables.roles, versions: &mut d.versions, version: &mut d.version };
-    by_pattern(p, u, r)
-}
-
-// D. by `&mut`
-pub fn by_lent(p: &mut Parts<'_>, u: usize, r: usize) -> Answer
-    ensures value { (readers forwards mandates : List ℕ) → done result (directory_of (tables_of p.new.roles.now readers forwards mandates) p.new.versions.now p.new.version.now) ≡ assign last_version (directory_of (tables_of p.old.roles.now readers forwards mandates) p.old.versions.now p.old.version.now) u r }
-    ensures same { (p.new.roles.ghost_name ≡ p.old.roles.ghost_name) × (p.new.versions.ghost_name ≡ p.old.versions.ghost_name) × (p.new.version.ghost_name ≡ p.old.version.ghost_name) }
-{
-    assignment::assign(p.roles, p.versions, p.version, u, r)
+    let directory = &mut engine.directory;
+    let tables = &mut directory.tables;
+    let sessions = &mut engine.sessions;
+    let mut p = Parts {
+        roles: &mut tables.roles,
+        readers: &mut tables.readers,
+        forwards: &mut tables.forwards,
+        mandates: &mut tables.mandates,
+        users: &mut directory.versions,
+        version: &mut directory.version,
+        opened: &mut sessions.opened,
+        counts: &mut sessions.counts,
+        roots: &mut sessions.roots,
+        reaches: &mut sessions.reaches,
+        versions: &mut sessions.versions,
+        denies: &mut sessions.denies,
+        rolesets: &mut sessions.rolesets,
+    };
+    step_lent(&mut p, call)
 }
