@@ -22,12 +22,7 @@ pub struct Fed {
 
 // A call is carried out, and its answer written from a place on. A read changes nothing and is
 // answered by its number, so that goes straight from the verdict to its digits.
-fn answer_call(
-    p: &mut Parts<'_>,
-    call: Call,
-    out: &mut [u8],
-    at: usize,
-) -> usize
+fn answer_call(p: &mut Parts<'_>, call: Call, out: &mut [u8], at: usize) -> usize
     requires { at + longest ≤ length out.old }
     ensures engine { lent p.new ≡ after (lent p.old) call }
     ensures same { Same p.new p.old }
@@ -56,11 +51,7 @@ fn answer_call(
 // answers, and writes those at the start of `out`. It stops at a line where less than the longest
 // answer is left of `out`; where that much is there from the start, a piece with a whole line in it
 // is not left whole.
-pub fn feed(
-    p: &mut Parts<'_>,
-    input: &[u8],
-    out: &mut [u8],
-) -> Fed
+pub fn feed(p: &mut Parts<'_>, input: &[u8], out: &mut [u8]) -> Fed
     ensures same { Same p.new p.old }
     ensures fed { Feeds input.now out.old out.new (lent p.new) (fed (length out.old) (lent p.old) input.now) result }
 {
@@ -86,11 +77,7 @@ pub fn feed(
 // One frame, a line without its line feed, is carried out, and its answer line written at the start of
 // `out`. Where there is less room than the longest answer needs, nothing is done. It goes by `feed`, so
 // that there is one place from which calls are answered, and the compiler makes one loop of it.
-pub fn answer_frame(
-    p: &mut Parts<'_>,
-    line: &[u8],
-    out: &mut [u8],
-) -> usize
+pub fn answer_frame(p: &mut Parts<'_>, line: &[u8], out: &mut [u8]) -> usize
     ensures same { Same p.new p.old }
     ensures answers { Answers line.now (lent p.old) (lent p.new) out.old out.new result }
 {

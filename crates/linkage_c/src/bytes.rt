@@ -67,8 +67,19 @@ pub extern "C" fn linkage_lent_frame(
     ensures { Answers line.now (engine_of (directory_of (tables_of roles.old readers.old forwards.old mandates.old) users.old version.old) (sessions_of opened.old counts.old roots.old reaches.old versions.old denies.old rolesets.old)) (engine_of (directory_of (tables_of roles.new readers.new forwards.new mandates.new) users.new version.new) (sessions_of opened.new counts.new roots.new reaches.new versions.new denies.new rolesets.new)) out.old out.new result }
 {
     let mut p = Parts {
-        roles, readers, forwards, mandates, users, version, opened, counts, roots, reaches,
-        versions, denies, rolesets,
+        roles,
+        readers,
+        forwards,
+        mandates,
+        users,
+        version,
+        opened,
+        counts,
+        roots,
+        reaches,
+        versions,
+        denies,
+        rolesets,
     };
     frames::lent::answer_frame(&mut p, line, out)
 }
@@ -97,8 +108,19 @@ pub extern "C" fn linkage_lent_feed(
     ensures { Feeds input.now out.old out.new (engine_of (directory_of (tables_of roles.new readers.new forwards.new mandates.new) users.new version.new) (sessions_of opened.new counts.new roots.new reaches.new versions.new denies.new rolesets.new)) (fed (length out.old) (engine_of (directory_of (tables_of roles.old readers.old forwards.old mandates.old) users.old version.old) (sessions_of opened.old counts.old roots.old reaches.old versions.old denies.old rolesets.old)) input.now) (record { consumed = consumed.new; written = result }) }
 {
     let mut p = Parts {
-        roles, readers, forwards, mandates, users, version, opened, counts, roots, reaches,
-        versions, denies, rolesets,
+        roles,
+        readers,
+        forwards,
+        mandates,
+        users,
+        version,
+        opened,
+        counts,
+        roots,
+        reaches,
+        versions,
+        denies,
+        rolesets,
     };
     let x = frames::lent::feed(&mut p, input, out);
     *consumed = x.consumed;

@@ -47,9 +47,7 @@ fn change(p: &mut Parts<'_>, c: Change) -> Answer
         Change::Assign { user, role } => {
             assignment::assign(p.roles, p.users, p.version, user, role)
         }
-        Change::Withdraw { user, role } => {
-            assignment::withdraw(p.roles, *p.version, user, role)
-        }
+        Change::Withdraw { user, role } => { assignment::withdraw(p.roles, *p.version, user, role) }
         Change::Permit { role, database } => permission::permit(
             p.roles, p.readers, p.users, p.version, role, database,
         ),
@@ -105,8 +103,8 @@ pub fn step(p: &mut Parts<'_>, call: Call) -> Answer
         } => {
             let s = session_at(product, session);
             answer_of(reading::read(
-                p.roles, p.readers, p.mandates, p.users, *p.opened, p.counts, p.reaches, p.versions,
-                p.denies, p.rolesets, user, s, flow, database,
+                p.roles, p.readers, p.mandates, p.users, *p.opened, p.counts, p.reaches,
+                p.versions, p.denies, p.rolesets, user, s, flow, database,
             ))
         }
         Call::Unreadable => Answer::Refused(Refusal::Malformed),

@@ -18,4 +18,3 @@ returns-in-Add-clause-value c = rw (c.in-Add.is, ← c.session_at-s.ensures) (of
 pub returns-in-Show-clause-value : goal.returns-in-Show-clause-value
 unfolding step ask
 returns-in-Show-clause-value c = rw (c.in-Show.is, ← c.session_at-s.ensures) (same_answer _ (c.show.ensures _ _ _ _ _))
-

@@ -25,4 +25,3 @@ returns-in-Forward-clause-value c = rw c.in-Forward.is (of_directory _ (c.forwar
 pub returns-in-Mandate-clause-value : goal.returns-in-Mandate-clause-value
 unfolding step change
 returns-in-Mandate-clause-value c = rw c.in-Mandate.is (of_directory _ (c.mandate.ensures _ _ _))
-

@@ -29,7 +29,7 @@ pub loop-at-preserved : goal.loop-at-preserved
 loop-at-preserved c = (
   search rules,
   feeding_step _ _ _ _ _ _ _ c.loop-at.invariant.1 c.in-Some.line _ _ _ (line_read _ _ c.new-digits.ensures.high c.new-digits.ensures.low c.type_inv.input c.next_line.ensures c.in-Some.is)
-    c.if-out-written-lt-LONGEST.false c.answer_call-written.ensures.engine c.answer_call-written.ensures.line,
+      c.if-out-written-lt-LONGEST.false c.answer_call-written.ensures.engine c.answer_call-written.ensures.line,
 )
 
 pub shape_of-out-after-loop-at : goal.shape_of-out-after-loop-at
