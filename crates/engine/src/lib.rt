@@ -10,32 +10,29 @@ pub use model::{
     Answer, Ask, Call, Change, Changed, Constraint, Directory, Engine, Product, Refusal, Sessions,
     Shown, Verdict, Version,
 };
-pub use step::{session_at, step};
+pub use step::{Parts, session_at, step};
 pub use values::fresh;
 
 // Any call on an engine that is lent whole: checked, carried out in place and answered.
 pub fn carry_out(engine: &mut Engine, call: Call) -> Answer
     ensures { done result engine.new ≡ step last_version engine.old call }
 {
-    let directory = &mut engine.directory;
-    let tables = &mut directory.tables;
-    let sessions = &mut engine.sessions;
-    step(
-        &mut tables.roles,
-        &mut tables.readers,
-        &mut tables.forwards,
-        &mut tables.mandates,
-        &mut directory.versions,
-        &mut directory.version,
-        &mut sessions.opened,
-        &mut sessions.counts,
-        &mut sessions.roots,
-        &mut sessions.reaches,
-        &mut sessions.versions,
-        &mut sessions.denies,
-        &mut sessions.rolesets,
-        call,
-    )
+    let mut parts = Parts {
+        roles: &mut engine.directory.tables.roles,
+        readers: &mut engine.directory.tables.readers,
+        forwards: &mut engine.directory.tables.forwards,
+        mandates: &mut engine.directory.tables.mandates,
+        users: &mut engine.directory.versions,
+        version: &mut engine.directory.version,
+        opened: &mut engine.sessions.opened,
+        counts: &mut engine.sessions.counts,
+        roots: &mut engine.sessions.roots,
+        reaches: &mut engine.sessions.reaches,
+        versions: &mut engine.sessions.versions,
+        denies: &mut engine.sessions.denies,
+        rolesets: &mut engine.sessions.rolesets,
+    };
+    step(&mut parts, call)
 }
 
 // Any call on an engine by value.

@@ -6,55 +6,48 @@ ghost use Rattle.frames.specs.Stream.{Answers, Feeds};
 use super::lent;
 use super::lent::Fed;
 use model::Engine;
+use step::Parts;
 
 // A piece of input on an engine: `lent::feed` on its parts.
 pub fn feed(engine: &mut Engine, input: &[u8], out: &mut [u8]) -> Fed
     ensures { Feeds input.now out.old out.new engine.new (fed (length out.old) engine.old input.now) result }
 {
-    let directory = &mut engine.directory;
-    let tables = &mut directory.tables;
-    let sessions = &mut engine.sessions;
-    lent::feed(
-        &mut tables.roles,
-        &mut tables.readers,
-        &mut tables.forwards,
-        &mut tables.mandates,
-        &mut directory.versions,
-        &mut directory.version,
-        &mut sessions.opened,
-        &mut sessions.counts,
-        &mut sessions.roots,
-        &mut sessions.reaches,
-        &mut sessions.versions,
-        &mut sessions.denies,
-        &mut sessions.rolesets,
-        input,
-        out,
-    )
+    let mut parts = Parts {
+        roles: &mut engine.directory.tables.roles,
+        readers: &mut engine.directory.tables.readers,
+        forwards: &mut engine.directory.tables.forwards,
+        mandates: &mut engine.directory.tables.mandates,
+        users: &mut engine.directory.versions,
+        version: &mut engine.directory.version,
+        opened: &mut engine.sessions.opened,
+        counts: &mut engine.sessions.counts,
+        roots: &mut engine.sessions.roots,
+        reaches: &mut engine.sessions.reaches,
+        versions: &mut engine.sessions.versions,
+        denies: &mut engine.sessions.denies,
+        rolesets: &mut engine.sessions.rolesets,
+    };
+    lent::feed(&mut parts, input, out)
 }
 
 // One frame on an engine: `lent::answer_frame` on its parts.
 pub fn answer_frame(engine: &mut Engine, line: &[u8], out: &mut [u8]) -> usize
     ensures { Answers line.now engine.old engine.new out.old out.new result }
 {
-    let directory = &mut engine.directory;
-    let tables = &mut directory.tables;
-    let sessions = &mut engine.sessions;
-    lent::answer_frame(
-        &mut tables.roles,
-        &mut tables.readers,
-        &mut tables.forwards,
-        &mut tables.mandates,
-        &mut directory.versions,
-        &mut directory.version,
-        &mut sessions.opened,
-        &mut sessions.counts,
-        &mut sessions.roots,
-        &mut sessions.reaches,
-        &mut sessions.versions,
-        &mut sessions.denies,
-        &mut sessions.rolesets,
-        line,
-        out,
-    )
+    let mut parts = Parts {
+        roles: &mut engine.directory.tables.roles,
+        readers: &mut engine.directory.tables.readers,
+        forwards: &mut engine.directory.tables.forwards,
+        mandates: &mut engine.directory.tables.mandates,
+        users: &mut engine.directory.versions,
+        version: &mut engine.directory.version,
+        opened: &mut engine.sessions.opened,
+        counts: &mut engine.sessions.counts,
+        roots: &mut engine.sessions.roots,
+        reaches: &mut engine.sessions.reaches,
+        versions: &mut engine.sessions.versions,
+        denies: &mut engine.sessions.denies,
+        rolesets: &mut engine.sessions.rolesets,
+    };
+    lent::answer_frame(&mut parts, line, out)
 }

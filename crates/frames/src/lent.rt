@@ -1,16 +1,17 @@
 // A run as a stream: input comes in pieces of any size, and answers go out into a lent buffer. The
 // engine's arrays are the caller's, who lends them for each piece.
 ghost use Rattle.std.specs.Prelude.{◌≡◌, ◌+◌, ◌≤◌, length};
-ghost use Rattle.model.specs.State.{tables_of, directory_of, sessions_of, engine_of};
 ghost use Rattle.model.specs.Calls.{after};
 ghost use Rattle.protocol.specs.Widths.{longest};
 ghost use Rattle.protocol.specs.Run.{reply, fed};
 ghost use Rattle.output.specs.Output.{ending, end_answer, end_written};
 ghost use Rattle.encoding.specs.Written.{Wrote};
+ghost use Rattle.step.specs.Parts.{lent, Same};
 ghost use Rattle.frames.specs.Stream.{Answers, Feeds};
 
 use super::LONGEST;
-use model::{Call, Engine, Version};
+use model::Call;
+use step::Parts;
 
 // How many bytes of the input were taken and of the output written.
 #[derive(Clone, Copy)]
@@ -21,27 +22,11 @@ pub struct Fed {
 
 // A call is carried out, and its answer written from a place on. A read changes nothing and is
 // answered by its number, so that goes straight from the verdict to its digits.
-fn answer_call(
-    roles: &mut [u64; Engine::USERS],
-    readers: &mut [u64; Engine::DATABASES],
-    forwards: &mut [u64; Engine::DATABASES],
-    mandates: &mut [u64; Engine::DATABASES],
-    users: &mut [Version; Engine::USERS],
-    version: &mut Version,
-    opened: &mut u64,
-    counts: &mut [usize; Engine::ALL_SESSIONS],
-    roots: &mut [usize; Engine::PLACES],
-    reaches: &mut [u64; Engine::PLACES],
-    versions: &mut [Version; Engine::PLACES],
-    denies: &mut [u64; Engine::PLACES],
-    rolesets: &mut [u64; Engine::ROLE_SETS],
-    call: Call,
-    out: &mut [u8],
-    at: usize,
-) -> usize
+fn answer_call(parts: &mut Parts<'_>, call: Call, out: &mut [u8], at: usize) -> usize
     requires { at + longest ≤ length out.old }
-    ensures engine { (engine_of (directory_of (tables_of roles.new readers.new forwards.new mandates.new) users.new version.new) (sessions_of opened.new counts.new roots.new reaches.new versions.new denies.new rolesets.new)) ≡ after (engine_of (directory_of (tables_of roles.old readers.old forwards.old mandates.old) users.old version.old) (sessions_of opened.old counts.old roots.old reaches.old versions.old denies.old rolesets.old)) call }
-    ensures line { Wrote out.old out.new at result (reply (engine_of (directory_of (tables_of roles.old readers.old forwards.old mandates.old) users.old version.old) (sessions_of opened.old counts.old roots.old reaches.old versions.old denies.old rolesets.old)) call) }
+    ensures engine { lent parts.new ≡ after (lent parts.old) call }
+    ensures same { Same parts.new parts.old }
+    ensures line { Wrote out.old out.new at result (reply (lent parts.old) call) }
 {
     if let Call::Read {
         product,
@@ -53,40 +38,22 @@ fn answer_call(
     {
         let s = step::session_at(product, session);
         let n = reading::number(
-            roles, readers, mandates, users, *opened, counts, reaches, versions, denies, rolesets,
-            user, s, flow, database,
+            parts.roles, parts.readers, parts.mandates, parts.users, *parts.opened, parts.counts, parts.reaches, parts.versions,
+            parts.denies, parts.rolesets, user, s, flow, database,
         );
         return encoding::write_number(n, out, at);
     }
-    let answer = step::step(
-        roles, readers, forwards, mandates, users, version, opened, counts, roots, reaches,
-        versions, denies, rolesets, call,
-    );
-    encoding::write_answer(answer, versions, denies, rolesets, out, at)
+    let answer = step::step(parts, call);
+    encoding::write_answer(answer, parts.versions, parts.denies, parts.rolesets, out, at)
 }
 
 // Takes a piece of input line by line, as far as it has whole lines and there is room for their
 // answers, and writes those at the start of `out`. It stops at a line where less than the longest
 // answer is left of `out`; where that much is there from the start, a piece with a whole line in it
 // is not left whole.
-pub fn feed(
-    roles: &mut [u64; Engine::USERS],
-    readers: &mut [u64; Engine::DATABASES],
-    forwards: &mut [u64; Engine::DATABASES],
-    mandates: &mut [u64; Engine::DATABASES],
-    users: &mut [Version; Engine::USERS],
-    version: &mut Version,
-    opened: &mut u64,
-    counts: &mut [usize; Engine::ALL_SESSIONS],
-    roots: &mut [usize; Engine::PLACES],
-    reaches: &mut [u64; Engine::PLACES],
-    versions: &mut [Version; Engine::PLACES],
-    denies: &mut [u64; Engine::PLACES],
-    rolesets: &mut [u64; Engine::ROLE_SETS],
-    input: &[u8],
-    out: &mut [u8],
-) -> Fed
-    ensures { Feeds input.now out.old out.new (engine_of (directory_of (tables_of roles.new readers.new forwards.new mandates.new) users.new version.new) (sessions_of opened.new counts.new roots.new reaches.new versions.new denies.new rolesets.new)) (fed (length out.old) (engine_of (directory_of (tables_of roles.old readers.old forwards.old mandates.old) users.old version.old) (sessions_of opened.old counts.old roots.old reaches.old versions.old denies.old rolesets.old)) input.now) result }
+pub fn feed(parts: &mut Parts<'_>, input: &[u8], out: &mut [u8]) -> Fed
+    ensures same { Same parts.new parts.old }
+    ensures fed { Feeds input.now out.old out.new (lent parts.new) (fed (length out.old) (lent parts.old) input.now) result }
 {
     let digits = decoding::Digits::new();
     let mut at = 0usize;
@@ -98,10 +65,7 @@ pub fn feed(
         let Some(line) = decoding::next_line(&digits, input, at) else {
             break;
         };
-        written = answer_call(
-            roles, readers, forwards, mandates, users, version, opened, counts, roots, reaches,
-            versions, denies, rolesets, line.call, out, written,
-        );
+        written = answer_call(parts, line.call, out, written);
         at = line.end + 1;
     }
     Fed {
@@ -113,45 +77,14 @@ pub fn feed(
 // One frame, a line without its line feed, is carried out, and its answer line written at the start of
 // `out`. Where there is less room than the longest answer needs, nothing is done. It goes by `feed`, so
 // that there is one place from which calls are answered, and the compiler makes one loop of it.
-pub fn answer_frame(
-    roles: &mut [u64; Engine::USERS],
-    readers: &mut [u64; Engine::DATABASES],
-    forwards: &mut [u64; Engine::DATABASES],
-    mandates: &mut [u64; Engine::DATABASES],
-    users: &mut [Version; Engine::USERS],
-    version: &mut Version,
-    opened: &mut u64,
-    counts: &mut [usize; Engine::ALL_SESSIONS],
-    roots: &mut [usize; Engine::PLACES],
-    reaches: &mut [u64; Engine::PLACES],
-    versions: &mut [Version; Engine::PLACES],
-    denies: &mut [u64; Engine::PLACES],
-    rolesets: &mut [u64; Engine::ROLE_SETS],
-    line: &[u8],
-    out: &mut [u8],
-) -> usize
-    ensures { Answers line.now (engine_of (directory_of (tables_of roles.old readers.old forwards.old mandates.old) users.old version.old) (sessions_of opened.old counts.old roots.old reaches.old versions.old denies.old rolesets.old)) (engine_of (directory_of (tables_of roles.new readers.new forwards.new mandates.new) users.new version.new) (sessions_of opened.new counts.new roots.new reaches.new versions.new denies.new rolesets.new)) out.old out.new result }
+pub fn answer_frame(parts: &mut Parts<'_>, line: &[u8], out: &mut [u8]) -> usize
+    ensures same { Same parts.new parts.old }
+    ensures answers { Answers line.now (lent parts.old) (lent parts.new) out.old out.new result }
 {
     let framed = decoding::as_frame(line);
     let bytes = framed.bytes;
     let n = framed.len;
-    let fed = feed(
-        roles,
-        readers,
-        forwards,
-        mandates,
-        users,
-        version,
-        opened,
-        counts,
-        roots,
-        reaches,
-        versions,
-        denies,
-        rolesets,
-        &bytes[..n],
-        out,
-    );
+    let fed = feed(parts, &bytes[..n], out);
     fed.written
 }
 

@@ -12,5 +12,6 @@ pub use encoding::answer_line;
 pub use kept::{answer_frame, feed};
 pub use lent::{Fed, finish};
 pub use protocol::{KEPT, LONGEST, SET_DIGITS, VERSION_DIGITS};
+pub use step::Parts;
 pub use values::fresh;
 pub use whole::run;

@@ -8,6 +8,7 @@ ghost use Rattle.frames.specs.Stream.{Answers, Feeds};
 ghost use Rattle.linkage_c.specs.Bytes.{length_of};
 
 use model::{Engine, Version};
+use step::Parts;
 
 // The engine is made fresh: empty tables, no open session, every version 0.
 #[unsafe(no_mangle)]
@@ -65,10 +66,22 @@ pub extern "C" fn linkage_lent_frame(
 ) -> usize
     ensures { Answers line.now (engine_of (directory_of (tables_of roles.old readers.old forwards.old mandates.old) users.old version.old) (sessions_of opened.old counts.old roots.old reaches.old versions.old denies.old rolesets.old)) (engine_of (directory_of (tables_of roles.new readers.new forwards.new mandates.new) users.new version.new) (sessions_of opened.new counts.new roots.new reaches.new versions.new denies.new rolesets.new)) out.old out.new result }
 {
-    frames::lent::answer_frame(
-        roles, readers, forwards, mandates, users, version, opened, counts, roots, reaches,
-        versions, denies, rolesets, line, out,
-    )
+    let mut parts = Parts {
+        roles,
+        readers,
+        forwards,
+        mandates,
+        users,
+        version,
+        opened,
+        counts,
+        roots,
+        reaches,
+        versions,
+        denies,
+        rolesets,
+    };
+    frames::lent::answer_frame(&mut parts, line, out)
 }
 
 // A piece of input: its whole lines are taken as far as there is room for their answers. The answer is how many bytes were
@@ -94,10 +107,22 @@ pub extern "C" fn linkage_lent_feed(
 ) -> usize
     ensures { Feeds input.now out.old out.new (engine_of (directory_of (tables_of roles.new readers.new forwards.new mandates.new) users.new version.new) (sessions_of opened.new counts.new roots.new reaches.new versions.new denies.new rolesets.new)) (fed (length out.old) (engine_of (directory_of (tables_of roles.old readers.old forwards.old mandates.old) users.old version.old) (sessions_of opened.old counts.old roots.old reaches.old versions.old denies.old rolesets.old)) input.now) (record { consumed = consumed.new; written = result }) }
 {
-    let x = frames::lent::feed(
-        roles, readers, forwards, mandates, users, version, opened, counts, roots, reaches,
-        versions, denies, rolesets, input, out,
-    );
+    let mut parts = Parts {
+        roles,
+        readers,
+        forwards,
+        mandates,
+        users,
+        version,
+        opened,
+        counts,
+        roots,
+        reaches,
+        versions,
+        denies,
+        rolesets,
+    };
+    let x = frames::lent::feed(&mut parts, input, out);
     *consumed = x.consumed;
     x.written
 }

@@ -1,19 +1,20 @@
-use Rattle.model.specs.Calls.{ask}
+use Rattle.model.specs.Calls.{ask, step}
 use Rattle.model.proofs.Chains.{same_answer}
+use Rattle.step.proofs.Answers.{of_sessions}
 use Rattle.step.proofs.ask.Goals as goal
 
-pub returns-in-Open : goal.returns-in-Open
-unfolding ask
-returns-in-Open c mandates users = rw c.in-Open.is (c.open_session.ensures _ _ _ _ _ _)
+pub returns-in-Open-clause-value : goal.returns-in-Open-clause-value
+unfolding step ask
+returns-in-Open-clause-value c = rw (c.in-Open.is, ← c.session_at-s.ensures) (of_sessions _ (c.open_session.ensures _ _ _ _ _ _))
 
-pub returns-in-Conflicting : goal.returns-in-Conflicting
-unfolding ask
-returns-in-Conflicting c mandates users = rw c.in-Conflicting.is (same_answer _ (c.conflicting.ensures mandates _ _ _ _))
+pub returns-in-Conflicting-clause-value : goal.returns-in-Conflicting-clause-value
+unfolding step ask
+returns-in-Conflicting-clause-value c = rw (c.in-Conflicting.is, ← c.session_at-s.ensures) (same_answer _ (c.conflicting.ensures _ _ _ _ _))
 
-pub returns-in-Add : goal.returns-in-Add
-unfolding ask
-returns-in-Add c mandates users = rw c.in-Add.is (c.add.ensures mandates users)
+pub returns-in-Add-clause-value : goal.returns-in-Add-clause-value
+unfolding step ask
+returns-in-Add-clause-value c = rw (c.in-Add.is, ← c.session_at-s.ensures) (of_sessions _ (c.add.ensures _ _))
 
-pub returns-in-Show : goal.returns-in-Show
-unfolding ask
-returns-in-Show c mandates users = rw c.in-Show.is (same_answer _ (c.show.ensures _ _ _ _ _))
+pub returns-in-Show-clause-value : goal.returns-in-Show-clause-value
+unfolding step ask
+returns-in-Show-clause-value c = rw (c.in-Show.is, ← c.session_at-s.ensures) (same_answer _ (c.show.ensures _ _ _ _ _))

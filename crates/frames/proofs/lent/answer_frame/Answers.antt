@@ -24,5 +24,5 @@ slice_bounds-feed-end c =
     let l : length c.as_frame-framed.result.bytes ≡ kept = search rules in
     sym (length-take-le _ _ (fits _ _ l c.as_frame-framed.ensures.within))
 
-pub returns : goal.returns
-returns c = framed _ _ _ _ _ _ _ c.as_frame-framed.ensures.bytes c.feed-fed.ensures
+pub returns-clause-answers : goal.returns-clause-answers
+returns-clause-answers c = framed _ _ _ _ _ _ _ c.as_frame-framed.ensures.bytes c.feed-fed.ensures.fed
