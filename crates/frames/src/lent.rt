@@ -38,13 +38,32 @@ fn answer_call(parts: &mut Parts<'_>, call: Call, out: &mut [u8], at: usize) -> 
     {
         let s = step::session_at(product, session);
         let n = reading::number(
-            parts.roles, parts.readers, parts.mandates, parts.users, *parts.opened, parts.counts, parts.reaches, parts.versions,
-            parts.denies, parts.rolesets, user, s, flow, database,
+            parts.roles,
+            parts.readers,
+            parts.mandates,
+            parts.users,
+            *parts.opened,
+            parts.counts,
+            parts.reaches,
+            parts.versions,
+            parts.denies,
+            parts.rolesets,
+            user,
+            s,
+            flow,
+            database,
         );
         return encoding::write_number(n, out, at);
     }
     let answer = step::step(parts, call);
-    encoding::write_answer(answer, parts.versions, parts.denies, parts.rolesets, out, at)
+    encoding::write_answer(
+        answer,
+        parts.versions,
+        parts.denies,
+        parts.rolesets,
+        out,
+        at,
+    )
 }
 
 // Takes a piece of input line by line, as far as it has whole lines and there is room for their

@@ -37,18 +37,35 @@ fn change(parts: &mut Parts<'_>, c: Change) -> Answer
         Change::Assign { user, role } => {
             assignment::assign(parts.roles, parts.users, parts.version, user, role)
         }
-        Change::Withdraw { user, role } => { assignment::withdraw(parts.roles, *parts.version, user, role) }
+        Change::Withdraw { user, role } => {
+            assignment::withdraw(parts.roles, *parts.version, user, role)
+        }
         Change::Permit { role, database } => permission::permit(
-            parts.roles, parts.readers, parts.users, parts.version, role, database,
+            parts.roles,
+            parts.readers,
+            parts.users,
+            parts.version,
+            role,
+            database,
         ),
         Change::Revoke { role, database } => permission::revoke(
-            parts.roles, parts.readers, parts.mandates, parts.users, parts.version, role, database,
+            parts.roles,
+            parts.readers,
+            parts.mandates,
+            parts.users,
+            parts.version,
+            role,
+            database,
         ),
         Change::Forward { from, to } => {
             forwarding::forward(parts.forwards, *parts.version, parts.counts, from, to)
         }
         Change::Mandate { role, database } => mandates::mandate(
-            parts.readers, parts.mandates, *parts.version, role, database,
+            parts.readers,
+            parts.mandates,
+            *parts.version,
+            role,
+            database,
         ),
     }
 }
@@ -62,11 +79,30 @@ fn ask(parts: &mut Parts<'_>, product: Product, session: usize, asked: Ask) -> A
     match asked {
         Ask::Open => sessions::open_session(parts.opened, *parts.version, s),
         Ask::Conflicting { root } => sessions::conflicting(
-            parts.roles, parts.readers, parts.forwards, *parts.opened, parts.counts, parts.reaches, s, root,
+            parts.roles,
+            parts.readers,
+            parts.forwards,
+            *parts.opened,
+            parts.counts,
+            parts.reaches,
+            s,
+            root,
         ),
         Ask::Add { root, chosen } => addition::add(
-            parts.roles, parts.readers, parts.forwards, *parts.version, *parts.opened, parts.counts, parts.roots, parts.reaches,
-            parts.versions, parts.denies, parts.rolesets, s, root, chosen,
+            parts.roles,
+            parts.readers,
+            parts.forwards,
+            *parts.version,
+            *parts.opened,
+            parts.counts,
+            parts.roots,
+            parts.reaches,
+            parts.versions,
+            parts.denies,
+            parts.rolesets,
+            s,
+            root,
+            chosen,
         ),
         Ask::Show { flow } => sessions::show(*parts.opened, parts.counts, s, flow),
     }
@@ -93,8 +129,20 @@ pub fn step(parts: &mut Parts<'_>, call: Call) -> Answer
         } => {
             let s = session_at(product, session);
             Answer::from(reading::read(
-                parts.roles, parts.readers, parts.mandates, parts.users, *parts.opened, parts.counts, parts.reaches,
-                parts.versions, parts.denies, parts.rolesets, user, s, flow, database,
+                parts.roles,
+                parts.readers,
+                parts.mandates,
+                parts.users,
+                *parts.opened,
+                parts.counts,
+                parts.reaches,
+                parts.versions,
+                parts.denies,
+                parts.rolesets,
+                user,
+                s,
+                flow,
+                database,
             ))
         }
         Call::Unreadable => Answer::Refused(Refusal::Malformed),
