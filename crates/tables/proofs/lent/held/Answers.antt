@@ -1,21 +1,23 @@
-use Prim.Native.Nat.{ℕ}
-use mathlib.Core.Path.{◌≡◌, ◌∙◌}
-use mathlib.Core.Bool.{Bool}
+use mathlib.Core.Path.{◌≡◌, sym, ◌∙◌}
+use native.Mathlib.Omega.{arith}
 use borrow.Author.Rules.{rules}
-use Rattle.std.specs.List.{list_any}
-use Rattle.std.proofs.lemmas.Iterator.{YieldsList-from_slice}
-use Rattle.std.proofs.lemmas.Iterator.Search.{any_from_yields_List}
-use Rattle.sets.specs.Sets.{has}
+use Rattle.sets.proofs.Laws.{some_none, some_at}
 use Rattle.rows.specs.Rows.{there}
 use Rattle.tables.specs.Tables.{held_by}
-use Rattle.tables.proofs.Laws.{some_row}
+use Rattle.tables.proofs.Laws.{none_yet}
 use Rattle.tables.proofs.lent.held.Goals as goal
 
-pub returns : goal.returns
+pub loop-row-init : goal.loop-row-init
+loop-row-init c = some_none _
+
+pub returns-then-contains : goal.returns-then-contains
 unfolding held_by there
-returns c =
-    let rows = c.args.roles.now in
-    let test : ℕ → Bool = λ row. has row c.args.r in
-    let any : c.any.result ≡ list_any test rows =
-    any_from_yields_List test _ _ c.any.result c.any.ensures.ran (YieldsList-from_slice rows cc) (λ x b q k. search rules) in
-    any ∙ some_row test rows 256 c.told-roles
+returns-then-contains c = sym (some_at 256 _ _ (search rules) (sym c.contains.ensures ∙ c.if-contains.true))
+
+pub loop-row-preserved : goal.loop-row-preserved
+unfolding there
+loop-row-preserved c = none_yet _ _ c.loop-row.invariant (sym c.contains.ensures ∙ c.if-contains.false)
+
+pub returns : goal.returns
+unfolding held_by
+returns c = let e : c.loop-row.row-index ≡ 256 = omega arith in sym (rw e at c.loop-row.invariant)
