@@ -7,15 +7,12 @@ use mathlib.Core.List.{List, [], ◌∷◌, ◌++◌, append-nil, append_assoc}
 use native.Mathlib.Decide.{dec_lt}
 use native.Mathlib.Omega.{arith}
 use lib.Dec.{eqb, leb}
-use lib.ListN.{length, take, drop, replicate, length-append, length-drop}
+use lib.ListN.{length, take, drop, length-append, length-drop}
 use lib.Seq.{take_at, drop_at, drop-drop}
 use borrow.Author.Tests.{le-leb, eq-eqb, ne_eqb}
 use Rattle.model.specs.declared.Engine.{Engine}
 use Rattle.model.specs.declared.calls.Call.{Call}
-use Rattle.tables.specs.Tables.{user_count, database_count}
-use Rattle.tables.specs.Tables.{fresh as empty_tables}
-use Rattle.model.specs.State.{all_sessions, place_count, role_set_count}
-use Rattle.model.specs.State.{tables_of, directory_of, sessions_of, engine_of, fresh}
+use Rattle.model.specs.State.{fresh}
 use Rattle.model.specs.Calls.{number_of, returned, verdict_of, step, answer, after}
 use Rattle.protocol.specs.Widths.{longest}
 use Rattle.protocol.specs.Digits.{glyph, hex}

@@ -195,11 +195,7 @@ fn said(rt: HostRuntime, x: Changed) -> Engine {
 }
 
 fn answered(rt: HostRuntime, v: Verdict) {
-    let answer = match v {
-        Verdict::Granted => Answer::Granted,
-        Verdict::Refused(why) => Answer::Refused(why),
-    };
-    unshown(rt, answer);
+    unshown(rt, Answer::from(v));
 }
 
 // An answer that shows no constraint.

@@ -4,10 +4,8 @@
 // none of its contracts.
 #![tactic(auto)]
 
+use streams::SENTENCE;
 use taking::{BUFFER, Held, Input};
-
-// How many bytes there is room for in the sentence about a failure: more than any has.
-const SENTENCE: usize = 128;
 
 // How many lines are answered, and whether the output is still open. Kept: both are handed on, also where
 // it is closed.

@@ -3,13 +3,11 @@
 #![tactic(auto)]
 
 use std::io::Error;
+use streams::SENTENCE;
 use trace::LIMIT;
 
 // One byte more than a recorded run may have: one that fills this is too long, and no more of it is read.
 const ROOM: usize = LIMIT + 1;
-
-// How many bytes there is room for in the sentence about a failure: more than any has.
-const SENTENCE: usize = 128;
 
 // Says that the input can't be read after these bytes of it.
 fn say(rt: HostRuntime, bytes: &[u8], failure: Error) {

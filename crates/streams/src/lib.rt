@@ -31,6 +31,9 @@ const BLOCK: usize = 128;
 // How many bytes of a reason there is room for: more than any has, with its number.
 const REASON: usize = 128;
 
+// How many bytes a program's sentence about a failure has room for: more than any has.
+pub const SENTENCE: usize = 128;
+
 // The place that reads or writes have come to in their bytes, and why they came no further, where they
 // couldn't. Kept beside each other: whoever says the failure says it of that place, which a `Result` would
 // lose.

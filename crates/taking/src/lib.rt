@@ -13,12 +13,10 @@ ghost use Rattle.pieces.specs.Pieces.{between};
 ghost use Rattle.taking.specs.Taking.{start, place_behind, under_way, More, Next, Taken};
 
 use std::io::Read;
+use streams::SENTENCE;
 
 // How many bytes are read at once.
 pub const BUFFER: usize = 65536;
-
-// How many bytes there is room for in the sentence about a failure: more than any has.
-const SENTENCE: usize = 128;
 
 // What of the input is to be fed, from a place to the end of what is filled; how many lines are answered;
 // whether both streams are still open; and how many turns are left.
