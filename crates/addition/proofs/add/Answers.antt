@@ -1,8 +1,7 @@
 use mathlib.Core.Path.{sym, ap, ◌∙◌}
 use mathlib.Core.Bool.{not}
-use borrow.Author.Tests.{le-leb, lt-leb}
-use Rattle.model.specs.Calls.{add}
-use Rattle.addition.proofs.Additions.{not_open, full, not_conflicting, accepted}
+use borrow.Author.Tests.{lt-leb}
+use Rattle.addition.proofs.Additions.{not_conflicting, accepted}
 use Rattle.addition.proofs.add.Goals as goal
 
 pub returns-then-outside : goal.returns-then-outside

@@ -1,7 +1,7 @@
 use mathlib.Core.Path.{sym, ap, ◌∙◌}
 use mathlib.Core.Bool.{not}
 use native.Mathlib.Omega.{arith}
-use borrow.Author.Tests.{le-leb, lt-leb}
+use borrow.Author.Tests.{lt-leb}
 use Rattle.model.specs.Calls.{conflicts_in, conflicting}
 use Rattle.graph.proofs.ByFlow.{roles_at}
 use Rattle.search.proofs.ByFlow.{conflicts_by_flow}
