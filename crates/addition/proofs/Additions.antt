@@ -15,7 +15,7 @@ use Rattle.tables.specs.Tables.{user_count, role_count, database_count}
 use Rattle.model.specs.Limits.{flow_count}
 use Rattle.model.specs.State.{all_sessions, tables_of, directory_of, sessions_of, place, set_place, filled, reach_with, conflicts, outside, deny_before, role_set}
 use Rattle.model.specs.declared.calls.Answer.TheVariants.{Flow, Refused}
-use Rattle.model.specs.declared.calls.Refusal.TheVariants.{NotOpen, SessionFull, NotConflicting}
+use Rattle.model.specs.declared.calls.Refusal.TheVariants.{NotConflicting}
 use Rattle.model.specs.Calls.{done, conflicts_in, with_flow, add}
 use Rattle.graph.specs.Graph.{roles_by_flow, overlapping_by_flow}
 use Rattle.graph.proofs.ByFlow.{roles_at, sets_at}
@@ -36,14 +36,6 @@ module _ (roles readers forwards mandates reaches may : List ℕ) (s n root new 
 
 -- the refusals past the limits, from what each of the steps promises
 module _ (roles readers forwards mandates users counts roots reaches versions denies sets : List ℕ) (version opened s root chosen : ℕ) (a : leb all_sessions s ≡ false) (b : leb database_count root ≡ false) (w : leb (2 ^ role_count) chosen ≡ false) where
-  pub not_open : not (has opened s) ≡ true → done (Refused NotOpen) (sessions_of opened counts roots reaches versions denies sets) ≡ add (directory_of (tables_of roles readers forwards mandates) users version) (sessions_of opened counts roots reaches versions denies sets) s root chosen
-  unfolding add
-  not_open o = rw (a, b, w, o)
-
-  pub full : not (has opened s) ≡ false → leb flow_count (get_or counts s 0) ≡ true → done (Refused SessionFull) (sessions_of opened counts roots reaches versions denies sets) ≡ add (directory_of (tables_of roles readers forwards mandates) users version) (sessions_of opened counts roots reaches versions denies sets) s root chosen
-  unfolding add
-  full o l = rw (a, b, w, o, l)
-
   pub not_conflicting : (may : List ℕ) (new found : ℕ) → not (has opened s) ≡ false → get_or counts s 0 < flow_count
       → new ≡ reach database_count forwards root → may ≡ roles_by_flow readers reaches s (get_or counts s 0) new
       → found ≡ conflicts_of roles may (get_or counts s 0 + 1) → outside role_count chosen found ≡ true

@@ -15,6 +15,7 @@ ghost use Rattle.addition.specs.RoleSets.{sets_put};
 use model::{Answer, Engine, Refusal, Version};
 
 // The deny set of the last of n flows of session s; of none it is empty.
+#[tactic(auto, unfolding(model::specs::State::deny_before, model::specs::State::place))]
 fn deny_before(denies: &[u64; Engine::PLACES], s: usize, n: usize) -> u64
     requires s_lt_all_sessions { s < all_sessions }
     requires n_lt_flow_count { n < flow_count }
@@ -36,6 +37,7 @@ fn put_sets(rolesets: &mut [u64; Engine::ROLE_SETS], given: &[u64; Engine::FLOWS
 }
 
 // 08 and 0d: session s gets a flow of this root, with these roles chosen.
+#[tactic(auto, unfolding(model::specs::Calls::add))]
 pub fn add(
     roles: &[u64; Engine::USERS],
     readers: &[u64; Engine::DATABASES],

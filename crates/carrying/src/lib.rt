@@ -93,6 +93,7 @@ fn sessions_of(old: OldSessions) -> Sessions
 }
 
 // Each version's number and all else, unchanged.
+#[tactic(auto, unfolding(crate::specs::Carrying::carried_over))]
 pub fn carry_over(old: OldEngine) -> Engine
     ensures { result ≡ carried_over old }
 {

@@ -34,6 +34,7 @@ fn renew(
 }
 
 // Whether a new version is due to the holders of role r, and there is none left.
+#[tactic(auto, unfolding(model::specs::Calls::spent))]
 fn spent(roles: &[u64; Engine::USERS], version: Version, r: usize) -> bool
     ensures { (readers forwards mandates versions : List ℕ) → result ≡ spent last_version (directory_of (tables_of roles.now readers forwards mandates) versions version) r }
 {
@@ -62,6 +63,7 @@ fn to_holders(
 }
 
 // 03: role r may read database d, and its holders get a new version.
+#[tactic(auto, unfolding(model::specs::Calls::permit, tables::specs::Tables::permitted, tables::specs::Tables::with_readers))]
 pub fn permit(
     roles: &[u64; Engine::USERS],
     readers: &mut [u64; Engine::DATABASES],
@@ -91,6 +93,7 @@ pub fn permit(
 
 // 04: role r may not read database d any more, and its holders get a new version. A permission with a
 // mandate on it stays.
+#[tactic(auto, unfolding(model::specs::Calls::revoke, tables::specs::Tables::revoked, tables::specs::Tables::with_readers))]
 pub fn revoke(
     roles: &[u64; Engine::USERS],
     readers: &mut [u64; Engine::DATABASES],

@@ -42,6 +42,7 @@ pub fn open_session(opened: &mut u64, version: Version, s: usize) -> Answer
 }
 
 // 07 and 0c: the conflicting roles of session s, with a flow of this root counted in but not added.
+#[tactic(auto, unfolding(model::specs::Calls::conflicting))]
 pub fn conflicting(
     roles: &[u64; Engine::USERS],
     readers: &[u64; Engine::DATABASES],

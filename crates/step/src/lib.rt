@@ -29,6 +29,7 @@ pub struct Parts<'a> {
 }
 
 // Any change of the tables.
+#[tactic(auto, unfolding(model::specs::Calls::step, model::specs::Calls::change))]
 fn change(parts: &mut Parts<'_>, c: Change) -> Answer
     ensures value { done result (lent parts.new) ≡ step last_version (lent parts.old) (Call.Table c) }
     ensures same { Same parts.new parts.old }
@@ -71,6 +72,7 @@ fn change(parts: &mut Parts<'_>, c: Change) -> Answer
 }
 
 // Anything that is asked of a product's session.
+#[tactic(auto, unfolding(model::specs::Calls::step, model::specs::Calls::ask))]
 fn ask(parts: &mut Parts<'_>, product: Product, session: usize, asked: Ask) -> Answer
     ensures value { done result (lent parts.new) ≡ step last_version (lent parts.old) (Call.Session product session asked) }
     ensures same { Same parts.new parts.old }
@@ -109,6 +111,7 @@ fn ask(parts: &mut Parts<'_>, product: Product, session: usize, asked: Ask) -> A
 }
 
 // One call: checked, carried out and answered.
+#[tactic(auto, unfolding(model::specs::Calls::step, model::specs::Calls::answer_of))]
 pub fn step(parts: &mut Parts<'_>, call: Call) -> Answer
     ensures value { done result (lent parts.new) ≡ step last_version (lent parts.old) call }
     ensures same { Same parts.new parts.old }

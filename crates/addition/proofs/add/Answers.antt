@@ -1,23 +1,8 @@
 use mathlib.Core.Path.{sym, ap, ◌∙◌}
 use mathlib.Core.Bool.{not}
-use borrow.Author.Tests.{le-leb, lt-leb}
-use Rattle.model.specs.Calls.{add}
-use Rattle.addition.proofs.Additions.{not_open, full, not_conflicting, accepted}
+use borrow.Author.Tests.{lt-leb}
+use Rattle.addition.proofs.Additions.{not_conflicting, accepted}
 use Rattle.addition.proofs.add.Goals as goal
-
-pub returns-then-s-ge-ALL_SESSIONS : goal.returns-then-s-ge-ALL_SESSIONS
-unfolding add
-returns-then-s-ge-ALL_SESSIONS c mandates users = rw (le-leb _ _ c.if-s-ge-ALL_SESSIONS.true)
-
-pub returns-then-root-ge-DATABASES : goal.returns-then-root-ge-DATABASES
-unfolding add
-returns-then-root-ge-DATABASES c mandates users = rw (lt-leb _ _ c.if-s-ge-ALL_SESSIONS.false, le-leb _ _ c.if-root-ge-DATABASES.true)
-
-pub returns-then-not-contains : goal.returns-then-not-contains
-returns-then-not-contains c mandates users = not_open _ _ _ mandates users _ _ _ _ _ _ _ _ _ _ _ (lt-leb _ _ c.if-s-ge-ALL_SESSIONS.false) (lt-leb _ _ c.if-root-ge-DATABASES.false) (lt-leb _ _ c.ranges.chosen.fits) (ap not (sym c.contains.ensures ∙ c.if-not-contains.true))
-
-pub returns-then-number-ge-FLOWS : goal.returns-then-number-ge-FLOWS
-returns-then-number-ge-FLOWS c mandates users = full _ _ _ mandates users _ _ _ _ _ _ _ _ _ _ _ (lt-leb _ _ c.if-s-ge-ALL_SESSIONS.false) (lt-leb _ _ c.if-root-ge-DATABASES.false) (lt-leb _ _ c.ranges.chosen.fits) (ap not (sym c.contains.ensures ∙ c.if-not-contains.false)) (le-leb _ _ c.if-number-ge-FLOWS.true)
 
 pub returns-then-outside : goal.returns-then-outside
 returns-then-outside c mandates users =

@@ -1,27 +1,11 @@
 use mathlib.Core.Path.{sym, ap, ◌∙◌}
 use mathlib.Core.Bool.{not}
 use native.Mathlib.Omega.{arith}
-use borrow.Author.Tests.{le-leb, lt-leb}
+use borrow.Author.Tests.{lt-leb}
 use Rattle.model.specs.Calls.{conflicts_in, conflicting}
 use Rattle.graph.proofs.ByFlow.{roles_at}
 use Rattle.search.proofs.ByFlow.{conflicts_by_flow}
 use Rattle.sessions.proofs.conflicting.Goals as goal
-
-pub returns-then-s-ge-ALL_SESSIONS : goal.returns-then-s-ge-ALL_SESSIONS
-unfolding conflicting
-returns-then-s-ge-ALL_SESSIONS c mandates roots versions denies rolesets = rw (le-leb _ _ c.if-s-ge-ALL_SESSIONS.true)
-
-pub returns-then-root-ge-DATABASES : goal.returns-then-root-ge-DATABASES
-unfolding conflicting
-returns-then-root-ge-DATABASES c mandates roots versions denies rolesets = rw (lt-leb _ _ c.if-s-ge-ALL_SESSIONS.false, le-leb _ _ c.if-root-ge-DATABASES.true)
-
-pub returns-then-not-contains : goal.returns-then-not-contains
-unfolding conflicting
-returns-then-not-contains c mandates roots versions denies rolesets = rw (lt-leb _ _ c.if-s-ge-ALL_SESSIONS.false, lt-leb _ _ c.if-root-ge-DATABASES.false, ap not (sym c.contains.ensures ∙ c.if-not-contains.true))
-
-pub returns-then-n-ge-FLOWS : goal.returns-then-n-ge-FLOWS
-unfolding conflicting
-returns-then-n-ge-FLOWS c mandates roots versions denies rolesets = rw (lt-leb _ _ c.if-s-ge-ALL_SESSIONS.false, lt-leb _ _ c.if-root-ge-DATABASES.false, ap not (sym c.contains.ensures ∙ c.if-not-contains.false), le-leb _ _ c.if-n-ge-FLOWS.true)
 
 pub returns : goal.returns
 unfolding conflicting conflicts_in
