@@ -9,10 +9,11 @@ use model::{Directory, Engine, Sessions, Version};
 use tables::Tables;
 
 // What versions were kept in.
-// Kept: the old structs stand by themselves, so that no change of today's reaches them.
 pub type OldVersion = u16;
 
 // Who held and might read what, and since when. The tables have the rows that they have today.
+// Kept: the old structs stand by themselves, as whoever moves asked, so that no change of today's reaches
+// them.
 #[derive(Clone, Copy)]
 pub struct OldDirectory {
     pub roles: [u64; Engine::USERS],

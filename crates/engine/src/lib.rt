@@ -121,13 +121,12 @@ pub fn open_session(e: Engine, product: Product, s: usize) -> Changed
 pub fn conflicting(e: Engine, product: Product, s: usize, root: usize) -> Answer
     ensures { result ≡ answer e (Call.Session product s (Ask.Conflicting root)) }
 {
-    let d = e.directory;
-    let t = d.tables;
-    let kept = e.sessions;
+    let tables = &e.directory.tables;
+    let kept = &e.sessions;
     sessions::conflicting(
-        &t.roles,
-        &t.readers,
-        &t.forwards,
+        &tables.roles,
+        &tables.readers,
+        &tables.forwards,
         kept.opened,
         &kept.counts,
         &kept.reaches,
@@ -161,13 +160,13 @@ pub fn show(e: Engine, product: Product, s: usize, f: usize) -> Shown
 pub fn read(e: Engine, product: Product, u: usize, s: usize, f: usize, d: usize) -> Verdict
     ensures { result ≡ verdict e (Call.Read product u s f d) }
 {
-    let directory = e.directory;
-    let t = directory.tables;
-    let kept = e.sessions;
+    let directory = &e.directory;
+    let tables = &directory.tables;
+    let kept = &e.sessions;
     reading::read(
-        &t.roles,
-        &t.readers,
-        &t.mandates,
+        &tables.roles,
+        &tables.readers,
+        &tables.mandates,
         &directory.versions,
         kept.opened,
         &kept.counts,

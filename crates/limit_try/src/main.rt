@@ -97,11 +97,12 @@ fn old_directory(t: Tables) -> OldDirectory {
     versions[1] = 65535;
     versions[2] = 255;
     versions[254] = 256;
-    // Kept: an array of a field goes into a literal by a variable.
-    let roles = t.roles;
-    let readers = t.readers;
-    let forwards = t.forwards;
-    let mandates = t.mandates;
+    let Tables {
+        roles,
+        readers,
+        forwards,
+        mandates,
+    } = t;
     OldDirectory {
         roles,
         readers,

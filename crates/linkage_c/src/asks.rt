@@ -26,13 +26,13 @@ pub extern "C" fn linkage_lent_open(
 
 // 07 and 0c: the conflicting roles, with a flow of this root counted in.
 #[unsafe(no_mangle)]
-pub extern "C" fn linkage_lent_conflicting<'a>(
-    roles: &'a [u64; Engine::USERS],
-    readers: &'a [u64; Engine::DATABASES],
-    forwards: &'a [u64; Engine::DATABASES],
+pub extern "C" fn linkage_lent_conflicting(
+    roles: &[u64; Engine::USERS],
+    readers: &[u64; Engine::DATABASES],
+    forwards: &[u64; Engine::DATABASES],
     opened: u64,
-    counts: &'a [usize; Engine::ALL_SESSIONS],
-    reaches: &'a [u64; Engine::PLACES],
+    counts: &[usize; Engine::ALL_SESSIONS],
+    reaches: &[u64; Engine::PLACES],
     product: usize,
     session: usize,
     root: usize,
@@ -48,10 +48,10 @@ pub extern "C" fn linkage_lent_conflicting<'a>(
 
 // 08 and 0d: a flow of this root is added, with these roles chosen.
 #[unsafe(no_mangle)]
-pub extern "C" fn linkage_lent_add<'a>(
-    roles: &'a [u64; Engine::USERS],
-    readers: &'a [u64; Engine::DATABASES],
-    forwards: &'a [u64; Engine::DATABASES],
+pub extern "C" fn linkage_lent_add(
+    roles: &[u64; Engine::USERS],
+    readers: &[u64; Engine::DATABASES],
+    forwards: &[u64; Engine::DATABASES],
     version: Version,
     opened: u64,
     counts: &mut [usize; Engine::ALL_SESSIONS],
@@ -83,12 +83,12 @@ pub extern "C" fn linkage_lent_add<'a>(
 // 0a and 0f: the constraint of the flow, with a role set for each of eight flows. In an engine that calls have led to,
 // those past the flow itself are empty.
 #[unsafe(no_mangle)]
-pub extern "C" fn linkage_lent_show<'a>(
+pub extern "C" fn linkage_lent_show(
     opened: u64,
-    counts: &'a [usize; Engine::ALL_SESSIONS],
-    versions: &'a [Version; Engine::PLACES],
-    denies: &'a [u64; Engine::PLACES],
-    rolesets: &'a [u64; Engine::ROLE_SETS],
+    counts: &[usize; Engine::ALL_SESSIONS],
+    versions: &[Version; Engine::PLACES],
+    denies: &[u64; Engine::PLACES],
+    rolesets: &[u64; Engine::ROLE_SETS],
     product: usize,
     session: usize,
     flow: usize,
@@ -124,17 +124,17 @@ pub extern "C" fn linkage_session(product: usize, session: usize) -> usize
 // nothing. Its parameters stand as in the function that it hands them to, so that none has to be moved: moving
 // them costs more than the read.
 #[unsafe(no_mangle)]
-pub extern "C" fn linkage_lent_read<'a>(
-    roles: &'a [u64; Engine::USERS],
-    readers: &'a [u64; Engine::DATABASES],
-    mandates: &'a [u64; Engine::DATABASES],
-    users: &'a [Version; Engine::USERS],
+pub extern "C" fn linkage_lent_read(
+    roles: &[u64; Engine::USERS],
+    readers: &[u64; Engine::DATABASES],
+    mandates: &[u64; Engine::DATABASES],
+    users: &[Version; Engine::USERS],
     opened: u64,
-    counts: &'a [usize; Engine::ALL_SESSIONS],
-    reaches: &'a [u64; Engine::PLACES],
-    versions: &'a [Version; Engine::PLACES],
-    denies: &'a [u64; Engine::PLACES],
-    rolesets: &'a [u64; Engine::ROLE_SETS],
+    counts: &[usize; Engine::ALL_SESSIONS],
+    reaches: &[u64; Engine::PLACES],
+    versions: &[Version; Engine::PLACES],
+    denies: &[u64; Engine::PLACES],
+    rolesets: &[u64; Engine::ROLE_SETS],
     user: usize,
     number: usize,
     flow: usize,

@@ -39,8 +39,8 @@ pub extern "C" fn linkage_lent_withdraw(
 
 // 03: the role may read the database.
 #[unsafe(no_mangle)]
-pub extern "C" fn linkage_lent_permit<'a>(
-    roles: &'a [u64; Engine::USERS],
+pub extern "C" fn linkage_lent_permit(
+    roles: &[u64; Engine::USERS],
     readers: &mut [u64; Engine::DATABASES],
     users: &mut [Version; Engine::USERS],
     version: &mut Version,
@@ -58,10 +58,10 @@ pub extern "C" fn linkage_lent_permit<'a>(
 
 // 04: the role may not read the database any more.
 #[unsafe(no_mangle)]
-pub extern "C" fn linkage_lent_revoke<'a>(
-    roles: &'a [u64; Engine::USERS],
+pub extern "C" fn linkage_lent_revoke(
+    roles: &[u64; Engine::USERS],
     readers: &mut [u64; Engine::DATABASES],
-    mandates: &'a [u64; Engine::DATABASES],
+    mandates: &[u64; Engine::DATABASES],
     users: &mut [Version; Engine::USERS],
     version: &mut Version,
     role: usize,
@@ -78,10 +78,10 @@ pub extern "C" fn linkage_lent_revoke<'a>(
 
 // 05: the first database forwards to the second.
 #[unsafe(no_mangle)]
-pub extern "C" fn linkage_lent_forward<'a>(
+pub extern "C" fn linkage_lent_forward(
     forwards: &mut [u64; Engine::DATABASES],
     version: Version,
-    counts: &'a [usize; Engine::ALL_SESSIONS],
+    counts: &[usize; Engine::ALL_SESSIONS],
     from: usize,
     to: usize,
     told: &mut Version,
@@ -96,8 +96,8 @@ pub extern "C" fn linkage_lent_forward<'a>(
 
 // 10: a mandate is put on the permission.
 #[unsafe(no_mangle)]
-pub extern "C" fn linkage_lent_mandate<'a>(
-    readers: &'a [u64; Engine::DATABASES],
+pub extern "C" fn linkage_lent_mandate(
+    readers: &[u64; Engine::DATABASES],
     mandates: &mut [u64; Engine::DATABASES],
     version: Version,
     role: usize,
