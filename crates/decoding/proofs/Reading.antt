@@ -13,14 +13,19 @@ use lib.Dec.{ltb, eqb, leb}
 use lib.ListN.{length, get_or, take, drop, set, replicate, length-drop, length-append, length-set, length-replicate, get_or-append}
 use lib.Pow.{pow-add, pow_mono}
 use lib.Seq.{take_all, take-suc-set, get_or-drop, get_or_at}
-use types.Run.{OneOf}
 use borrow.Author.Tests.{lt-ltb, le-ltb, eq-eqb, ne_eqb, le-leb, lt-leb, ltb-true, ltb-false, leb-true, eqb-true}
 use Rattle.sets.proofs.Laws.{and_both}
 use Rattle.model.specs.declared.calls.Call.{Call}
 use Rattle.protocol.specs.Lines.{line_feed, rest_digits, called_by}
-use Rattle.kinds.specs.Kinds.{field_in}
+use Rattle.model.specs.declared.calls.Product.{Product}
+use Rattle.model.specs.declared.calls.Product.TheVariants.{Server, TermBank}
+use Rattle.kinds.specs.declared.Kind.{Kind}
+use Rattle.kinds.specs.declared.NoSuchKind.{NoSuchKind}
+use Rattle.kinds.specs.declared.Kind.TheVariants.{Assign, Withdraw, Permit, Revoke, Forward, Open, Conflicting, Add, Read, Show, Mandate}
+use Rattle.kinds.specs.Kinds.{field_in, number_of_kind}
 use Rattle.kinds.proofs.Laws.{no_kind, unknown}
-use Rattle.std.specs.Prelude.{Option, Some, None}
+use Rattle.std.specs.Prelude.{Option, Some, None, Result, Ok, Err, MatchResult}
+use Rattle.std.specs.Result.{result_ok}
 use Rattle.decoding.specs.declared.read.Rest.{Rest}
 use Rattle.decoding.specs.declared.read.Frame.{Frame}
 use Rattle.decoding.specs.Fields.{pair_at, pair_read, pairs_right, pairs_number, pairs_at, pairs_read, fields_read, ended_by, fields_of, one_field, two_fields, four_fields, chosen_set, addition, fields_by}
@@ -316,43 +321,47 @@ no_digits k h =
     let out : (leb 1 k && leb k 16) ≡ false = ⊎_elim (λ w. rw (lt-leb 1 k w)) (λ w. rw (lt-leb k 16 w) (and-false (leb 1 k))) h in
     rw (no 6 (omega arith), no 11 (omega arith), no 8 (omega arith), no 13 (omega arith), no 9 (omega arith), no 14 (omega arith), out)
 
--- ---- what an arm of a `match` on the kind knows
+-- ---- how many digits a kind of either product has behind it
 
--- each of these kinds has n digits behind it
-unfoldable pub all_have : ℕ → List ℕ → Bool
-all_have n [] = true
-all_have n (k ∷ ks) = eqb (rest_digits k) n && all_have n ks
+pub open_digits : (p : Product) → rest_digits (number_of_kind (Open p)) ≡ 2
+unfolding rest_digits number_of_kind
+open_digits Server = refl
+open_digits TermBank = refl
 
-pub keyed_digits : (n : ℕ) (ks : List ℕ) (k : ℕ) → all_have n ks ≡ true → OneOf ks k → rest_digits k ≡ n
-unfolding all_have
-keyed_digits n [] k t h = absurd h
-keyed_digits n (j ∷ []) k t h = rw h (eqb-true (rest_digits j) n (and_both (eqb (rest_digits j) n) _ t).0)
-keyed_digits n (j ∷ i ∷ ks) k t h =
-    let p = and_both (eqb (rest_digits j) n) _ t in
-    ⊎_elim (λ e. rw e (eqb-true (rest_digits j) n p.0)) (λ l. keyed_digits n (i ∷ ks) k p.1 l) h
+conflicting_digits : (p : Product) → rest_digits (number_of_kind (Conflicting p)) ≡ 4
+unfolding rest_digits number_of_kind
+conflicting_digits Server = refl
+conflicting_digits TermBank = refl
 
--- a kind with none of the other shapes has two fields
-pub two_digits : (k : ℕ) → k < 17 → 0 < k → (k ≡ 6 → ⊥) → (k ≡ 11 → ⊥) → (k ≡ 9 → ⊥) → (k ≡ 14 → ⊥) → (k ≡ 8 → ⊥) → (k ≡ 13 → ⊥) → rest_digits k ≡ 4
-unfolding rest_digits
-two_digits =
-    by_kind (λ k. 0 < k → (k ≡ 6 → ⊥) → (k ≡ 11 → ⊥) → (k ≡ 9 → ⊥) → (k ≡ 14 → ⊥) → (k ≡ 8 → ⊥) → (k ≡ 13 → ⊥) → rest_digits k ≡ 4)
-    (λ l a b c d e f. absurd (omega arith))
-    (λ l a b c d e f. refl)
-    (λ l a b c d e f. refl)
-    (λ l a b c d e f. refl)
-    (λ l a b c d e f. refl)
-    (λ l a b c d e f. refl)
-    (λ l a b c d e f. absurd (a refl))
-    (λ l a b c d e f. refl)
-    (λ l a b c d e f. absurd (e refl))
-    (λ l a b c d e f. absurd (c refl))
-    (λ l a b c d e f. refl)
-    (λ l a b c d e f. absurd (b refl))
-    (λ l a b c d e f. refl)
-    (λ l a b c d e f. absurd (f refl))
-    (λ l a b c d e f. absurd (d refl))
-    (λ l a b c d e f. refl)
-    (λ l a b c d e f. refl)
+pub add_digits : (p : Product) → rest_digits (number_of_kind (Add p)) ≡ 20
+unfolding rest_digits number_of_kind
+add_digits Server = refl
+add_digits TermBank = refl
+
+pub read_digits : (p : Product) → rest_digits (number_of_kind (Read p)) ≡ 8
+unfolding rest_digits number_of_kind
+read_digits Server = refl
+read_digits TermBank = refl
+
+show_digits : (p : Product) → rest_digits (number_of_kind (Show p)) ≡ 4
+unfolding rest_digits number_of_kind
+show_digits Server = refl
+show_digits TermBank = refl
+
+-- the kinds that share the arm of two fields
+abbrev HasTwo : Kind → Type 0
+HasTwo k = (k ≡ Assign) ⊎ ((k ≡ Withdraw) ⊎ ((k ≡ Permit) ⊎ ((k ≡ Revoke) ⊎ ((k ≡ Forward) ⊎ (((p : Product) × (k ≡ Conflicting p)) ⊎ (((p : Product) × (k ≡ Show p)) ⊎ (k ≡ Mandate)))))))
+
+pub two_digits : (k : Kind) → HasTwo k → rest_digits (number_of_kind k) ≡ 4
+unfolding rest_digits number_of_kind
+two_digits k (inl e) = rw e
+two_digits k (inr (inl e)) = rw e
+two_digits k (inr (inr (inl e))) = rw e
+two_digits k (inr (inr (inr (inl e)))) = rw e
+two_digits k (inr (inr (inr (inr (inl e))))) = rw e
+two_digits k (inr (inr (inr (inr (inr (inl (p, e))))))) = rw e (conflicting_digits p)
+two_digits k (inr (inr (inr (inr (inr (inr (inl (p, e)))))))) = rw e (show_digits p)
+two_digits k (inr (inr (inr (inr (inr (inr (inr e))))))) = rw e
 
 -- ---- a frame from the fields that were read
 
@@ -430,29 +439,50 @@ module _ (high low rest : List ℕ) where
       go (yes l) = known k l
       go (no l) = other k (inr (omega (arith, l)))
 
--- no frame begins with what is no two digits
+-- no frame begins with a number that no kind has
+no_frame : (high low line : List ℕ) → (pair_at high low line 0 < 1) ⊎ (16 < pair_at high low line 0) → None ≡ frame_by high low line
+unfolding frame_by frame_if call_by is_frame
+no_frame high low line h =
+    rw (unknown _ (λ i. pair_at high low (drop 2 line) (2 * i)) (pairs_number high low (drop 4 (drop 2 line)) 8) h, and-false (leb 2 (length line)))
+
+-- nor with what is no two digits
 pub frame_wrong : (high low line : List ℕ) {k : Option ℕ} → k ≡ pair_read high low line 0 → k ≡ None → None ≡ frame_by high low line
-unfolding frame_by frame_if call_by is_frame pair_read
+unfolding pair_read
 frame_wrong high low line read was =
     let k : ℕ = pair_at high low line 0 in
-    let big : 16 < k = omega (arith, ltb-false k 256 (no_test (ltb k 256) k (sym was ∙ read))) in
-    rw (unknown k (λ i. pair_at high low (drop 2 line) (2 * i)) (pairs_number high low (drop 4 (drop 2 line)) 8) (inr big), and-false (leb 2 (length line)))
+    no_frame high low line (inr (omega (arith, ltb-false k 256 (no_test (ltb k 256) k (sym was ∙ read)))))
 
--- the kind was read, and then the fields, by the kind
-module _ (high low line : List ℕ) {k : Option ℕ} {kind : ℕ} {r : Option Rest} (long : 2 ≤ length line) (digits : k ≡ pair_read high low line 0) (two : k ≡ Some kind)
-    (read : r ≡ fields_by high low (take (length line - 2) (drop 2 line)) (rest_digits kind)) where
-  first : kind ≡ pair_at high low line 0
+-- what a number was read as: its kind, or none
+abbrev ReadAs : ℕ → Result Kind NoSuchKind → Type 0
+ReadAs n r = MatchResult r (λ kind. number_of_kind kind ≡ n) (λ e. (e.0 ≡ n) × ((n < 1) ⊎ (16 < n)))
+
+-- the number of the kind was read
+module _ (high low line : List ℕ) {k : Option ℕ} {n : ℕ} (digits : k ≡ pair_read high low line 0) (two : k ≡ Some n) where
+  first : n ≡ pair_at high low line 0
   unfolding pair_read
   first = (read_test (ltb (pair_at high low line 0) 256) (sym two ∙ digits)).1
 
-  frame_made : made kind r ≡ frame_by high low line
-  unfolding frame_by call_by
-  frame_made = rw (read, to_end 2 line long, le-leb 2 (length line) long, ← first) (of_kind high low (drop 2 line) kind)
+  pub frame_unknown : (m : Result Kind NoSuchKind) → ReadAs n m → {o : Option Kind} → o ≡ result_ok m → o ≡ None → None ≡ frame_by high low line
+  frame_unknown (Ok kind) h e f = absurd cc
+  frame_unknown (Err none) h e f = no_frame high low line (rw first at h.1)
 
-  pub frame_none : r ≡ None → None ≡ frame_by high low line
-  unfolding made
-  frame_none e = rw e at frame_made
+  kind_first : (m : Result Kind NoSuchKind) → ReadAs n m → {o : Option Kind} → o ≡ result_ok m → {kind : Kind} → o ≡ Some kind → number_of_kind kind ≡ pair_at high low line 0
+  kind_first (Ok read) h e {kind} f =
+      let same : kind ≡ read = cc in
+      rw same (h ∙ first)
+  kind_first (Err none) h e f = absurd cc
 
-  pub frame_some : {x : Rest} → r ≡ Some x → {call : Call} → call ≡ called_by kind (field_in x.fields) x.fields.chosen → some call x.digits ≡ frame_by high low line
-  unfolding made
-  frame_some e f = rw f (rw e at frame_made)
+  -- and then the fields, by the kind
+  module _ (m : Result Kind NoSuchKind) {o : Option Kind} {kind : Kind} {r : Option Rest} (long : 2 ≤ length line) (named : ReadAs n m) (ok : o ≡ result_ok m) (is : o ≡ Some kind)
+      (read : r ≡ fields_by high low (take (length line - 2) (drop 2 line)) (rest_digits (number_of_kind kind))) where
+    frame_made : made (number_of_kind kind) r ≡ frame_by high low line
+    unfolding frame_by call_by
+    frame_made = rw (read, to_end 2 line long, le-leb 2 (length line) long, ← kind_first m named ok is) (of_kind high low (drop 2 line) (number_of_kind kind))
+
+    pub frame_none : r ≡ None → None ≡ frame_by high low line
+    unfolding made
+    frame_none e = rw e at frame_made
+
+    pub frame_some : {x : Rest} → r ≡ Some x → {call : Call} → call ≡ called_by (number_of_kind kind) (field_in x.fields) x.fields.chosen → some call x.digits ≡ frame_by high low line
+    unfolding made
+    frame_some e f = rw f (rw e at frame_made)

@@ -3,10 +3,11 @@ ghost use Rattle.std.specs.Prelude.{◌≡◌, ◌+◌, ◌*◌, ◌≤◌, leng
 ghost use Rattle.protocol.specs.Lines.{rest_digits, call_of};
 ghost use Rattle.decoding.specs.Fields.{pair_read, pairs_read, fields_read, chosen_set, addition, fields_by};
 ghost use Rattle.decoding.specs.Frames.{frame_by};
+ghost use Rattle.kinds.specs.Kinds.{number_of_kind};
 
 use super::lines;
 use digits::Digits;
-use kinds::Fields;
+use kinds::{Fields, Kind};
 use model::Call;
 use protocol::{KEPT, SET_DIGITS};
 
@@ -97,13 +98,12 @@ fn fields_and_set(digits: &Digits, s: &[u8]) -> Option<Rest>
     })
 }
 
-// The fields of a frame of this kind, of whose rest the input is. As in `kinds::call_of`, the kinds of the
-// two products share an arm, and a kind is a number.
-fn fields_of(digits: &Digits, s: &[u8], kind: u64) -> Option<Rest>
-    ensures { result ≡ fields_by digits.now.high digits.now.low s.now (rest_digits kind) }
+// The fields of a frame of this kind, of whose rest the input is.
+fn fields_of(digits: &Digits, s: &[u8], kind: Kind) -> Option<Rest>
+    ensures { result ≡ fields_by digits.now.high digits.now.low s.now (rest_digits (number_of_kind kind)) }
 {
     match kind {
-        6 | 11 => {
+        Kind::Open(_) => {
             let [a] = fields::<1>(digits, s)?;
             Some(Rest {
                 digits: 4,
@@ -113,7 +113,14 @@ fn fields_of(digits: &Digits, s: &[u8], kind: u64) -> Option<Rest>
                 },
             })
         }
-        1 | 2 | 3 | 4 | 5 | 7 | 10 | 12 | 15 | 16 => {
+        Kind::Assign
+        | Kind::Withdraw
+        | Kind::Permit
+        | Kind::Revoke
+        | Kind::Forward
+        | Kind::Conflicting(_)
+        | Kind::Show(_)
+        | Kind::Mandate => {
             let [a, b] = fields::<2>(digits, s)?;
             Some(Rest {
                 digits: 6,
@@ -123,15 +130,14 @@ fn fields_of(digits: &Digits, s: &[u8], kind: u64) -> Option<Rest>
                 },
             })
         }
-        9 | 14 => {
+        Kind::Read(_) => {
             let numbers = fields::<4>(digits, s)?;
             Some(Rest {
                 digits: 10,
                 fields: Fields { numbers, chosen: 0 },
             })
         }
-        8 | 13 => fields_and_set(digits, s),
-        0 | 17..=u64::MAX => None,
+        Kind::Add(_) => fields_and_set(digits, s),
     }
 }
 
@@ -142,7 +148,7 @@ pub(crate) fn decode(digits: &Digits, line: &[u8]) -> Option<Frame>
     if line.len() < 2 {
         return None;
     }
-    let kind = two(digits, line, 0)? as u64;
+    let kind = Kind::try_from(two(digits, line, 0)?).ok()?;
     let rest = fields_of(digits, &line[2..], kind)?;
     Some(Frame {
         call: kinds::call_of(kind, rest.fields),

@@ -1,22 +1,22 @@
--- Laws of kinds: which numbers are none, and what call an arm of a `match` on the kind has.
+-- Laws of kinds: which numbers are none, and what call a kind of either product is.
 -- Assumes nothing.
 use Prim.Native.Nat.{ℕ, ◌≤◌, ◌<◌}
 use mathlib.Core.Path.{◌≡◌, refl}
 use mathlib.Core.Bool.{false}
-use mathlib.Core.List.{[], ◌∷◌}
 use mathlib.Core.Logic.{◌⊎◌, ⊎_elim}
 use native.Mathlib.Omega.{arith}
 use lib.Dec.{eqb}
 use lib.ListN.{get_or}
-use types.Run.{OneOf}
 use borrow.Author.Tests.{ne_eqb}
 use Rattle.model.specs.declared.calls.Product.{Product}
+use Rattle.model.specs.declared.calls.Product.TheVariants.{Server, TermBank}
 use Rattle.model.specs.declared.calls.Ask.TheVariants.{Open, Conflicting, Add, Show}
-use Rattle.model.specs.declared.calls.Call.{Call}
 use Rattle.model.specs.declared.calls.Call.TheVariants.{Session, Read, Unreadable}
 use Rattle.protocol.specs.Lines.{called_by}
 use Rattle.kinds.specs.declared.Fields.{Fields}
-use Rattle.kinds.specs.Kinds.{field_in, product_of}
+use Rattle.kinds.specs.declared.Kind.{Kind}
+use Rattle.kinds.specs.declared.Kind.TheVariants.{Open as Kind-Open, Conflicting as Kind-Conflicting, Add as Kind-Add, Read as Kind-Read, Show as Kind-Show}
+use Rattle.kinds.specs.Kinds.{field_in, number_of_kind, product_of}
 
 -- no kind is 0, or above 16
 pub no_kind : (k : ℕ) → (k < 1) ⊎ (16 < k) → (j : ℕ) → (1 ≤ j) × (j ≤ 16) → eqb k j ≡ false
@@ -45,33 +45,39 @@ unknown k field set h =
       no 16 (omega arith),
     )
 
--- ---- what call an arm of a `match` on the kind has
+-- ---- the kind of one of two numbers, one for each product
 
--- the call of one of two kinds, one for each product
-module _ (k : ℕ) {p : Product} (f : Fields) (of : p ≡ product_of k) where
+pub numbered : (kind : Product → Kind) (i j : ℕ) → number_of_kind (kind (product_of i)) ≡ i → number_of_kind (kind (product_of j)) ≡ j → {n : ℕ} {p : Product} → p ≡ product_of n → (n ≡ i) ⊎ (n ≡ j)
+    → number_of_kind (kind p) ≡ n
+numbered kind i j first second of h = rw of (⊎_elim (λ e. rw e first) (λ e. rw e second) h)
+
+-- ---- what call a kind of either product is
+
+module _ (f : Fields) where
   abbrev at : ℕ → ℕ
   at i = get_or f.numbers i 0
 
-  either : (call : Product → Call) (i j : ℕ) → call (product_of i) ≡ called_by i (field_in f) f.chosen → call (product_of j) ≡ called_by j (field_in f) f.chosen
-      → (k ≡ i) ⊎ (k ≡ j) → call p ≡ called_by k (field_in f) f.chosen
-  either call i j first second h = rw of (⊎_elim (λ e. rw e first) (λ e. rw e second) h)
+  pub open_called : (p : Product) → Session p (at 0) Open ≡ called_by (number_of_kind (Kind-Open p)) (field_in f) f.chosen
+  unfolding number_of_kind called_by field_in
+  open_called Server = refl
+  open_called TermBank = refl
 
-  pub open_called : OneOf (6 ∷ 11 ∷ []) k → Session p (at 0) Open ≡ called_by k (field_in f) f.chosen
-  unfolding product_of called_by field_in
-  open_called = either (λ q. Session q (at 0) Open) 6 11 refl refl
+  pub conflicting_called : (p : Product) → Session p (at 0) (Conflicting (at 1)) ≡ called_by (number_of_kind (Kind-Conflicting p)) (field_in f) f.chosen
+  unfolding number_of_kind called_by field_in
+  conflicting_called Server = refl
+  conflicting_called TermBank = refl
 
-  pub conflicting_called : OneOf (7 ∷ 12 ∷ []) k → Session p (at 0) (Conflicting (at 1)) ≡ called_by k (field_in f) f.chosen
-  unfolding product_of called_by field_in
-  conflicting_called = either (λ q. Session q (at 0) (Conflicting (at 1))) 7 12 refl refl
+  pub add_called : (p : Product) → Session p (at 0) (Add (at 1) f.chosen) ≡ called_by (number_of_kind (Kind-Add p)) (field_in f) f.chosen
+  unfolding number_of_kind called_by field_in
+  add_called Server = refl
+  add_called TermBank = refl
 
-  pub add_called : OneOf (8 ∷ 13 ∷ []) k → Session p (at 0) (Add (at 1) f.chosen) ≡ called_by k (field_in f) f.chosen
-  unfolding product_of called_by field_in
-  add_called = either (λ q. Session q (at 0) (Add (at 1) f.chosen)) 8 13 refl refl
+  pub read_called : (p : Product) → Read p (at 0) (at 1) (at 2) (at 3) ≡ called_by (number_of_kind (Kind-Read p)) (field_in f) f.chosen
+  unfolding number_of_kind called_by field_in
+  read_called Server = refl
+  read_called TermBank = refl
 
-  pub read_called : OneOf (9 ∷ 14 ∷ []) k → Read p (at 0) (at 1) (at 2) (at 3) ≡ called_by k (field_in f) f.chosen
-  unfolding product_of called_by field_in
-  read_called = either (λ q. Read q (at 0) (at 1) (at 2) (at 3)) 9 14 refl refl
-
-  pub show_called : OneOf (10 ∷ 15 ∷ []) k → Session p (at 0) (Show (at 1)) ≡ called_by k (field_in f) f.chosen
-  unfolding product_of called_by field_in
-  show_called = either (λ q. Session q (at 0) (Show (at 1))) 10 15 refl refl
+  pub show_called : (p : Product) → Session p (at 0) (Show (at 1)) ≡ called_by (number_of_kind (Kind-Show p)) (field_in f) f.chosen
+  unfolding number_of_kind called_by field_in
+  show_called Server = refl
+  show_called TermBank = refl

@@ -1,20 +1,67 @@
-// The call of a kind with its fields.
+// The kinds of frames, and the call of a kind with its fields.
 #![tactic(auto)]
 
-ghost use Rattle.std.specs.Prelude.{◌≡◌};
+ghost use Rattle.std.specs.Prelude.{◌≡◌, ◌<◌, ◌⊎◌, MatchResult};
 ghost use Rattle.protocol.specs.Lines.{called_by};
-ghost use Rattle.kinds.specs.Kinds.{field_in, product_of};
+ghost use Rattle.kinds.specs.Kinds.{field_in, number_of_kind, product_of};
 
 use model::{Ask, Call, Change, Product};
 
-// The product that the calls of a kind are for, among the kinds that have one.
-fn product_of(kind: u64) -> Product
-    ensures { result ≡ product_of kind }
+// The kinds of frames; those on sessions and reads name the product that they are for.
+#[derive(Clone, Copy, PartialEq, Eq, Debug)]
+pub enum Kind {
+    Assign,
+    Withdraw,
+    Permit,
+    Revoke,
+    Forward,
+    Open(Product),
+    Conflicting(Product),
+    Add(Product),
+    Read(Product),
+    Show(Product),
+    Mandate,
+}
+
+// A number that no kind has.
+#[derive(Clone, Copy, PartialEq, Eq, Debug)]
+pub struct NoSuchKind(pub usize);
+
+// The product of a number, among those of kinds that have one.
+fn product_of(number: usize) -> Product
+    ensures { result ≡ product_of number }
 {
-    if kind < 11 {
+    if number < 11 {
         Product::Server
     } else {
         Product::TermBank
+    }
+}
+
+// The kind that has this number. The numbers of the two products share an arm: they come in any order,
+// and a branch that tells them apart costs more, where it is mispredicted, than the read.
+#[tactic(auto, unfolding(crate::specs::Kinds::number_of_kind))]
+impl TryFrom<usize> for Kind {
+    type Error = NoSuchKind;
+
+    ghost try_from_gives = { λ n r. MatchResult r (λ kind. number_of_kind kind ≡ n) (λ e. (e.0 ≡ n) × ((n < 1) ⊎ (16 < n))) };
+
+    fn try_from(number: usize) -> Result<Self, NoSuchKind> {
+        let product = product_of(number);
+        match number {
+            1 => Ok(Kind::Assign),
+            2 => Ok(Kind::Withdraw),
+            3 => Ok(Kind::Permit),
+            4 => Ok(Kind::Revoke),
+            5 => Ok(Kind::Forward),
+            6 | 11 => Ok(Kind::Open(product)),
+            7 | 12 => Ok(Kind::Conflicting(product)),
+            8 | 13 => Ok(Kind::Add(product)),
+            9 | 14 => Ok(Kind::Read(product)),
+            10 | 15 => Ok(Kind::Show(product)),
+            16 => Ok(Kind::Mandate),
+            _ => Err(NoSuchKind(number)),
+        }
     }
 }
 
@@ -25,34 +72,30 @@ pub struct Fields {
     pub chosen: u64,
 }
 
-// The call of a kind with these fields, of which a kind takes the first ones; no call where there is no
-// such kind. The kinds of the two products share an arm: they come in any order, and a branch that
-// tells them apart costs more, where it is mispredicted, than the read.
-// Kept: a kind is a number, as the protocol's own definition `called_by` has it.
-pub fn call_of(kind: u64, fields: Fields) -> Call
-    ensures { result ≡ called_by kind (field_in fields) fields.chosen }
+// The call of a kind with these fields, of which a kind takes the first ones.
+pub fn call_of(kind: Kind, fields: Fields) -> Call
+    ensures { result ≡ called_by (number_of_kind kind) (field_in fields) fields.chosen }
 {
-    let product = product_of(kind);
     let [a, b, c, d] = fields.numbers;
     // 03, 04 and 10 have a role and a database.
     let (role, database) = (a, b);
     match kind {
-        1 => Call::Table(Change::Assign { user: a, role: b }),
-        2 => Call::Table(Change::Withdraw { user: a, role: b }),
-        3 => Call::Table(Change::Permit { role, database }),
-        4 => Call::Table(Change::Revoke { role, database }),
-        5 => Call::Table(Change::Forward { from: a, to: b }),
-        6 | 11 => Call::Session {
+        Kind::Assign => Call::Table(Change::Assign { user: a, role: b }),
+        Kind::Withdraw => Call::Table(Change::Withdraw { user: a, role: b }),
+        Kind::Permit => Call::Table(Change::Permit { role, database }),
+        Kind::Revoke => Call::Table(Change::Revoke { role, database }),
+        Kind::Forward => Call::Table(Change::Forward { from: a, to: b }),
+        Kind::Open(product) => Call::Session {
             product,
             session: a,
             ask: Ask::Open,
         },
-        7 | 12 => Call::Session {
+        Kind::Conflicting(product) => Call::Session {
             product,
             session: a,
             ask: Ask::Conflicting { root: b },
         },
-        8 | 13 => Call::Session {
+        Kind::Add(product) => Call::Session {
             product,
             session: a,
             ask: Ask::Add {
@@ -60,19 +103,18 @@ pub fn call_of(kind: u64, fields: Fields) -> Call
                 chosen: fields.chosen,
             },
         },
-        9 | 14 => Call::Read {
+        Kind::Read(product) => Call::Read {
             product,
             user: a,
             session: b,
             flow: c,
             database: d,
         },
-        10 | 15 => Call::Session {
+        Kind::Show(product) => Call::Session {
             product,
             session: a,
             ask: Ask::Show { flow: b },
         },
-        16 => Call::Table(Change::Mandate { role, database }),
-        0 | 17..=u64::MAX => Call::Unreadable,
+        Kind::Mandate => Call::Table(Change::Mandate { role, database }),
     }
 }
