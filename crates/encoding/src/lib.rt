@@ -34,6 +34,7 @@ const FIELD_DIGITS: usize = 2;
 // it is compiled, no loop is left of it.
 // Kept: a place and the buffer are handed on, here and below. A struct that held both would have to
 // promise in each method that it still lends the same buffer.
+#[tactic(auto, using(crate::proofs::Writing::digits_start, crate::proofs::Writing::digits_step))]
 fn write_hex<const N: usize>(v: u64, out: &mut [u8], at: usize) -> usize
     requires { at + N ≤ length out.old }
     ensures { Wrote out.old out.new at result (hex N v) }
@@ -56,6 +57,7 @@ fn write_feed(out: &mut [u8], at: usize) -> usize
 }
 
 // These role sets, one after the other.
+#[tactic(auto, using(crate::proofs::Writing::wrote_nothing, crate::proofs::Writing::wrote_length, protocol::proofs::Laws::role_sets_length), unfolding(protocol::specs::Lines::role_sets))]
 fn write_sets(sets: &[u64], out: &mut [u8], at: usize) -> usize
     requires { at + set_digits * length sets.now ≤ length out.old }
     ensures { Wrote out.old out.new at result (role_sets (length sets.now) sets.now) }
@@ -68,6 +70,7 @@ fn write_sets(sets: &[u64], out: &mut [u8], at: usize) -> usize
 }
 
 // A flow's constraint, with the role sets up to its own.
+#[tactic(auto, using(crate::proofs::Writing::wrote_hex))]
 fn write_constraint(shown: Shown, flow: usize, out: &mut [u8], at: usize) -> usize
     requires { (flow < length shown.roles.now) × (at + (version_digits + set_digits + set_digits * suc flow) ≤ length out.old) }
     ensures { Wrote out.old out.new at result (hex version_digits shown.entry.version ++ (hex set_digits shown.entry.deny ++ role_sets (suc flow) shown.entry.roles.now)) }
@@ -78,6 +81,7 @@ fn write_constraint(shown: Shown, flow: usize, out: &mut [u8], at: usize) -> usi
 }
 
 // A new flow's number, reach and version.
+#[tactic(auto, using(crate::proofs::Writing::wrote_hex, crate::proofs::Writing::wrote_length))]
 fn write_flow(number: usize, reach: u32, version: Version, out: &mut [u8], at: usize) -> usize
     requires { at + (field_digits + field_digits + version_digits) ≤ length out.old }
     ensures { Wrote out.old out.new at result (hex field_digits number ++ (hex field_digits reach ++ hex version_digits version)) }
@@ -88,6 +92,7 @@ fn write_flow(number: usize, reach: u32, version: Version, out: &mut [u8], at: u
 }
 
 // What follows the first two digits of a line; the constraint is that of the flow that the answer shows.
+#[tactic(auto, using(crate::proofs::Writing::wrote_nothing, crate::proofs::Writing::shown_below), unfolding(protocol::specs::Lines::values))]
 fn write_values(a: Answer, shown: Shown, out: &mut [u8], at: usize) -> usize
     requires a_bound { (shown_sets a ≤ flow_count) × (flow_count ≤ length shown.roles.now) }
     requires flow_count_in_bounds { at + (version_digits + set_digits * (1 + flow_count)) ≤ length out.old }
@@ -107,6 +112,7 @@ fn write_values(a: Answer, shown: Shown, out: &mut [u8], at: usize) -> usize
 }
 
 // The line of an answer, from a place on that leaves room for every line.
+#[tactic(auto, using(crate::proofs::Writing::wrote_hex))]
 fn write_line(a: Answer, shown: Shown, out: &mut [u8], at: usize) -> usize
     requires a_bound { (shown_sets a ≤ flow_count) × (flow_count ≤ length shown.roles.now) }
     requires longest_in_bounds { at + longest ≤ length out.old }
@@ -118,6 +124,7 @@ fn write_line(a: Answer, shown: Shown, out: &mut [u8], at: usize) -> usize
 }
 
 // A number and a line feed, which is the whole answer to a read, from a place on.
+#[tactic(auto, using(output::proofs::Laws::room_there, crate::proofs::Writing::wrote_hex))]
 pub fn write_number(n: u64, out: &mut [u8], at: usize) -> usize
     ensures { Puts (room_at out.old at) out.old out.new at result (hex field_digits n ++ (line_feed ∷ [])) }
 {
@@ -139,6 +146,7 @@ pub fn number_line(n: u64) -> [u8; SET_DIGITS + 1]
 }
 
 // The line of an answer, from a place on; a constraint that it shows is taken from the arrays.
+#[tactic(auto, using(output::proofs::Laws::room_there, crate::proofs::Writing::place_few, crate::proofs::Writing::part_long))]
 pub fn write_answer(
     a: Answer,
     versions: &[Version; Engine::PLACES],

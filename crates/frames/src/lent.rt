@@ -22,6 +22,7 @@ pub struct Fed {
 
 // A call is carried out, and its answer written from a place on. A read changes nothing and is
 // answered by its number, so that goes straight from the verdict to its digits.
+#[tactic(auto, using(crate::proofs::Answering::read_after, encoding::proofs::Writing::wrote_length))]
 fn answer_call(parts: &mut Parts<'_>, call: Call, out: &mut [u8], at: usize) -> usize
     requires { at + longest ≤ length out.old }
     ensures engine { lent parts.new ≡ after (lent parts.old) call }
@@ -70,6 +71,7 @@ fn answer_call(parts: &mut Parts<'_>, call: Call, out: &mut [u8], at: usize) -> 
 // answers, and writes those at the start of `out`. It stops at a line where less than the longest
 // answer is left of `out`; where that much is there from the start, a piece with a whole line in it
 // is not left whole.
+#[tactic(auto, using(crate::proofs::Feeding::feeding_start, crate::proofs::Feeding::written_fits, crate::proofs::Feeding::out_long))]
 pub fn feed(parts: &mut Parts<'_>, input: &[u8], out: &mut [u8]) -> Fed
     ensures same { Same parts.new parts.old }
     ensures fed { Feeds input.now out.old out.new (lent parts.new) (fed (length out.old) (lent parts.old) input.now) result }

@@ -5,6 +5,7 @@ use super::kept;
 
 // The run of the program on this input, at the start of `out`, and how long it is. Where there is no
 // room, None, and `out` begins with the answers up to there.
+#[tactic(auto, using(crate::proofs::Endings::from_fresh, crate::proofs::Endings::taken_within))]
 pub fn run(input: &[u8], out: &mut [u8]) -> Option<usize>
     ensures { Ran input.now out.old out.new result }
 {

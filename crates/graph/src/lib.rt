@@ -50,6 +50,7 @@ fn databases_with(reaches: &[u64; Engine::PLACES], s: usize, n: usize, new: u64,
 // Step 2 for each flow of session s, which has its number among those of both products, with a new flow
 // counted in; nobody where there is no such session. (A slice of reaches in place of their array costs a
 // tenth of the time of a mixed list.)
+#[tactic(auto, unfolding(crate::specs::Graph::roles_by_flow))]
 pub fn roles_by_flow(
     readers: &[u64; Engine::DATABASES],
     reaches: &[u64; Engine::PLACES],

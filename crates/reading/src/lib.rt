@@ -13,6 +13,7 @@ use tables::lent;
 
 // Whether these roles meet the deny set and two of the role sets of the flow at this place. All of
 // its role sets are looked at: a branch that leaves early costs more than they do.
+#[tactic(auto, using(sets::proofs::Laws::count_none, sets::proofs::Laws::counted, sets::proofs::Laws::uncounted))]
 fn links(rolesets: &[u64; Engine::ROLE_SETS], deny: u64, held: u64, at: usize) -> bool
     requires { at < place_count }
     ensures { result ≡ linkable role_count flow_count held deny (λ g. get_or rolesets.now (at * flow_count + g) 0) }
@@ -34,7 +35,7 @@ fn links(rolesets: &[u64; Engine::ROLE_SETS], deny: u64, held: u64, at: usize) -
 //
 // Kept: the answer is a number and not the enum, which costs a read a quarter more and which the C
 // interface would turn into the number. The arrays come one by one, as that interface lends them.
-#[tactic(auto, unfolding(model::specs::Calls::read, model::specs::Calls::returned, model::specs::Calls::number_of))]
+#[tactic(auto, unfolding(model::specs::Calls::read, model::specs::Calls::returned, model::specs::Calls::number_of, model::specs::Calls::by_duty, model::specs::Calls::links, model::specs::State::roleset_at, model::specs::State::set_place, model::specs::State::place))]
 pub fn number(
     roles: &[u64; Engine::USERS],
     readers: &[u64; Engine::DATABASES],
@@ -82,6 +83,7 @@ pub fn number(
 }
 
 // The same read, answered as document 01 has it: granted, or refused with its row.
+#[tactic(auto, using(verdict::proofs::Laws::back))]
 pub fn read(
     roles: &[u64; Engine::USERS],
     readers: &[u64; Engine::DATABASES],

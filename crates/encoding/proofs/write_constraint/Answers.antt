@@ -4,11 +4,6 @@ use lib.ListN.{length-take}
 use Rattle.encoding.proofs.Writing.{wrote_both, wrote_hex, wrote_same, part_written}
 use Rattle.encoding.proofs.write_constraint.Goals as goal
 
-pub write_hex-next-requires-2 : goal.write_hex-next-requires-2
-write_hex-next-requires-2 c =
-    let first = c.write_hex-next.ensures in
-    omega (arith, wrote_hex _ _ first)
-
 pub write_sets-requires : goal.write_sets-requires
 write_sets-requires c =
     let first = c.write_hex-next.ensures in

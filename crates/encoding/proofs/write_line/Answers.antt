@@ -3,11 +3,6 @@ use native.Mathlib.Omega.{arith}
 use Rattle.encoding.proofs.Writing.{wrote_line, wrote_hex, wrote_values, wrote_length}
 use Rattle.encoding.proofs.write_line.Goals as goal
 
-pub write_values-next-requires : goal.write_values-next-requires
-write_values-next-requires c =
-    let two = c.write_hex-next.ensures in
-    record { a_bound = c.requires.a_bound; flow_count_in_bounds = omega (arith, wrote_hex _ _ two) }
-
 pub write_feed-requires : goal.write_feed-requires
 write_feed-requires c =
     let two = c.write_hex-next.ensures in

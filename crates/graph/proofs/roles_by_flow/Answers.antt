@@ -1,15 +1,10 @@
 use borrow.Author.Rules.{rules}
-use borrow.Author.Tests.{le-leb, lt-leb}
+use borrow.Author.Tests.{lt-leb}
 use Rattle.tables.specs.Tables.{readers_of, role_count, database_count}
 use Rattle.model.specs.State.{reach_with}
 use Rattle.graph.specs.Graph.{roles_by_flow}
 use Rattle.graph.proofs.Made.{flows_from_fn}
 use Rattle.graph.proofs.roles_by_flow.Goals as goal
-
--- there is no such session
-pub returns-then-s-ge-ALL_SESSIONS : goal.returns-then-s-ge-ALL_SESSIONS
-unfolding roles_by_flow
-returns-then-s-ge-ALL_SESSIONS c = rw (le-leb _ _ c.if-s-ge-ALL_SESSIONS.true)
 
 pub returns : goal.returns
 unfolding roles_by_flow

@@ -5,24 +5,11 @@ use native.Mathlib.Omega.{arith}
 use lib.ListN.{get_or}
 use Rattle.std.proofs.lemmas.List.{get_or-take, get_or-drop}
 use Rattle.sets.specs.Sets.{count, meeting}
-use Rattle.sets.proofs.Laws.{count_none, count_cong, counted, uncounted}
+use Rattle.sets.proofs.Laws.{count_cong}
 use Rattle.tables.specs.Tables.{role_count}
 use Rattle.model.specs.Limits.{flow_count}
 use Rattle.model.specs.State.{linkable}
-use Rattle.reading.proofs.links.Goals.{then-meets, else-meets}
 use Rattle.reading.proofs.links.Goals as goal
-
-pub loop-set-init : goal.loop-set-init
-loop-set-init c = (omega arith, count_none _)
-
-pub loop-set-preserved : goal.loop-set-preserved
-loop-set-preserved c =
-    let i = c.loop-set.invariant in
-    let meets = sym c.meets.ensures in
-    elim c.if-meets.branch [
-      | then-meets w ↦ (omega arith, counted _ _ _ i.1 (meets ∙ w.if-meets.true) ∙ sym w.met-is)
-      | else-meets w ↦ (omega arith, uncounted _ _ _ i.1 (meets ∙ w.if-meets.false) ∙ sym w.met-is)
-    ]
 
 -- those of the part that was looked at are those from the flow's first one on
 counted_part : (rolesets part : List ℕ) (held first i met : ℕ) → i ≡ flow_count → ((g : ℕ) → g < flow_count → get_or part g 0 ≡ get_or rolesets (first + g) 0)
