@@ -11,6 +11,7 @@ use model::{Engine, Version};
 use step::Parts;
 
 // The engine is made fresh: empty tables, no open session, every version 0.
+#[tactic(auto, unfolding(model::specs::State::fresh, tables::specs::Tables::fresh))]
 #[unsafe(no_mangle)]
 pub extern "C" fn linkage_lent_fresh(
     roles: &mut [u64; Engine::USERS],
