@@ -71,6 +71,7 @@ impl Input {
     }
 
     // What is to be fed.
+    #[tactic(auto, using(crate::proofs::Laws::part_is))]
     pub fn part(&self) -> &[u8]
         ensures { result.now ≡ between self.now.bytes self.now.held.from self.now.held.filled }
     {
