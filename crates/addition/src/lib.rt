@@ -71,7 +71,7 @@ pub fn add(
     }
     let reach = graph::databases(forwards, root);
     let may = graph::roles_by_flow(readers, reaches, s, number, reach);
-    if search::outside(chosen, search::conflicts(roles, &may, number + 1)) {
+    if search::outside(chosen, search::conflicts(roles, &may[..number + 1])) {
         return Answer::Refused(Refusal::NotConflicting);
     }
     let deny = sets::union(deny_before(denies, s, number), chosen);

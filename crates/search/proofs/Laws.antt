@@ -1,4 +1,4 @@
--- What the search has done so far: a count that stops at two, and roles found user by user. And why it need not look past the last set.
+-- What the search has done so far: a count that stops at two, and roles found user by user. And what it finds among a part of the sets.
 -- Assumes nothing.
 use Prim.Native.Nat.{ℕ, min, ◌+◌, ◌≤◌, ◌<◌, ◌^◌}
 use mathlib.Core.Path.{◌≡◌, refl, sym, ap, ◌∙◌}
@@ -75,27 +75,24 @@ found_passed n roles two u found held g h e =
     none : (r : ℕ) → r < n → (has (get_or roles u 0) r && not (has found r)) ≡ false
     none r l = sym (has_lacking n (get_or roles u 0) found r l) ∙ ap (λ (y : ℕ). has y r) (ap (λ (x : ℕ). lacking n x found) (sym h) ∙ e) ∙ has_empty r
 
--- ---- past the last set
-
--- what would stand further on is empty, and meets nothing
-no_further : (roles may flows : List ℕ) (n : ℕ) → flows ≡ take n may → conflicts_of roles flows (length flows) ≡ conflicts_of roles may n
+-- so after all users what is found is what conflicts
+pub found_all : (roles may : List ℕ) (found : ℕ) → Found role_count roles (λ v. leb 2 (count (length may) (λ g. meeting role_count (get_or roles v 0) (get_or may g 0)))) user_count found
+    → found ≡ conflicts_of roles may (length may)
 unfolding conflicts_of
-no_further roles may flows n e =
+found_all roles may found g = g.so_far
+
+-- ---- a part of the sets
+
+-- the first n of them, or all where they are fewer: what would stand further on is empty, and meets nothing
+pub conflicts_taken : (roles may : List ℕ) (n : ℕ) → conflicts_of roles (take n may) (length (take n may)) ≡ conflicts_of roles may n
+unfolding conflicts_of
+conflicts_taken roles may n =
     set_of_cong role_count _ _ (λ c b. some_cong user_count _ _ (λ u a. ap (λ (x : ℕ). there roles u c && leb 2 x) (same (get_or roles u 0))))
   where
-    l : length flows ≡ min n (length may)
-    l = ap length e ∙ length-take n may
+    l : length (take n may) ≡ min n (length may)
+    l = length-take n may
 
-    here : (g : ℕ) → g < length flows → get_or flows g 0 ≡ get_or may g 0
-    here g h = ap (λ (xs : List ℕ). get_or xs g 0) e ∙ get_or-take n may g 0 (omega (arith, l))
-
-    same : (held : ℕ) → count (length flows) (λ g. meeting role_count held (get_or flows g 0)) ≡ count n (λ g. meeting role_count held (get_or may g 0))
+    same : (held : ℕ) → count (length (take n may)) (λ g. meeting role_count held (get_or (take n may) g 0)) ≡ count n (λ g. meeting role_count held (get_or may g 0))
     same held =
-        count_cong (length flows) _ _ (λ g h. ap (meeting role_count held) (here g h))
-        ∙ sym (count_stops (length flows) n _ (omega (arith, l)) (λ g h i. ap (meeting role_count held) (get_or-eq_default may 0 (omega (arith, l))) ∙ meets_none role_count held))
-
--- so after all users what is found is what conflicts
-pub found_all : (roles may flows : List ℕ) (n found : ℕ) → Found role_count roles (λ v. leb 2 (count (length flows) (λ g. meeting role_count (get_or roles v 0) (get_or flows g 0)))) user_count found
-    → flows ≡ take n may → found ≡ conflicts_of roles may n
-unfolding conflicts_of
-found_all roles may flows n found g e = g.so_far ∙ no_further roles may flows n e
+        count_cong (length (take n may)) _ _ (λ g h. ap (meeting role_count held) (get_or-take n may g 0 (omega (arith, l))))
+        ∙ sym (count_stops (length (take n may)) n _ (omega (arith, l)) (λ g h i. ap (meeting role_count held) (get_or-eq_default may 0 (omega (arith, l))) ∙ meets_none role_count held))

@@ -3,27 +3,25 @@
 // Every public function answers for any numbers.
 #![tactic(auto)]
 
-ghost use Rattle.std.specs.Prelude.{◌≡◌};
+ghost use Rattle.std.specs.Prelude.{◌≡◌, length};
 ghost use Rattle.tables.specs.Tables.{role_count};
 ghost use Rattle.model.specs.State.{outside};
 ghost use Rattle.search.specs.Search.{conflicts_of};
 
 use model::Engine;
 
-// The roles of the users whose roles meet two of the first n sets, of which those past the last one
-// are empty and not looked at. The search through the flows ends at the second one found. A user
-// whose roles are all found already can add none, and is passed over.
+// The roles of the users whose roles meet two of the sets. The search through the sets ends at the second
+// one found. A user whose roles are all found already can add none, and is passed over.
 //
 // Kept: two loops in one function, the inner one left by its label. The project's law names this form.
-pub fn conflicts(roles: &[u64; Engine::USERS], may: &[u64], n: usize) -> u64
-    ensures { result ≡ conflicts_of roles.now may.now n }
+pub fn conflicts(roles: &[u64; Engine::USERS], may: &[u64]) -> u64
+    ensures { result ≡ conflicts_of roles.now may.now (length may.now) }
 {
-    let flows = &may[..n.min(may.len())];
     let mut found = 0;
     for held in roles {
         if sets::difference(*held, found) != 0 {
             let mut seen = 0usize;
-            'flows: for set in flows {
+            'flows: for set in may {
                 if sets::meets(*held, *set) {
                     seen += 1;
                     if seen == 2 {

@@ -70,7 +70,7 @@ pub fn conflicting(
     }
     let new = graph::databases(forwards, root);
     let may = graph::roles_by_flow(readers, reaches, s, n, new);
-    Answer::Roles(search::conflicts(roles, &may, n + 1))
+    Answer::Roles(search::conflicts(roles, &may[..n + 1]))
 }
 
 // 0a and 0f: the constraint of flow f of session s is shown, where there is one.

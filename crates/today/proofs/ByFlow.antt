@@ -1,6 +1,6 @@
 -- Where the sets are the readers of the flows that are there, what the search finds is what conflicts.
 -- Assumes nothing.
-use Prim.Native.Nat.{ℕ, ◌<◌}
+use Prim.Native.Nat.{ℕ, ◌≤◌, ◌<◌}
 use mathlib.Core.Path.{◌≡◌, refl, ap, ◌∙◌}
 use mathlib.Core.Bool.{Bool, true, false, cond, ◌&&◌}
 use mathlib.Core.List.{List}
@@ -50,6 +50,15 @@ within S s g l = go (leb all_sessions s) (leb flow_count (flows_in S s)) refl re
     go true b p q l = absurd (omega arith)
     go false true p q l = (p, l)
     go false false p q l = (p, omega (arith, leb-false flow_count (flows_in S s) q))
+
+pub at_most : (S : Sessions) (s n : ℕ) → n ≡ flows_today S s → n ≤ flow_count
+unfolding flows_today
+at_most S s n e = rw e (go (leb all_sessions s) (leb flow_count (flows_in S s)) refl)
+  where
+    go : (a b : Bool) → leb flow_count (flows_in S s) ≡ b → cond a 0 (cond b flow_count (flows_in S s)) ≤ flow_count
+    go true b q = omega arith
+    go false true q = omega arith
+    go false false q = omega (arith, leb-false flow_count (flows_in S s) q)
 
 pub found : (roles readers forwards mandates may : List ℕ) (S : Sessions) (s n : ℕ) → n ≡ flows_today S s → may ≡ roles_by_flow readers S.reaches s n 0
     → conflicts_of roles may n ≡ conflicts_today (tables_of roles readers forwards mandates) S s

@@ -30,5 +30,5 @@ pub fn conflicts_today(
 {
     let n = flows_today(counts, s);
     let may = graph::roles_by_flow(readers, reaches, s, n, 0);
-    search::conflicts(roles, &may, n)
+    search::conflicts(roles, &may[..n])
 }

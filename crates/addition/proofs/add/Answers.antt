@@ -1,6 +1,7 @@
 use mathlib.Core.Path.{sym, ap, ◌∙◌}
 use mathlib.Core.Bool.{not}
 use borrow.Author.Tests.{lt-leb}
+use Rattle.search.proofs.Laws.{conflicts_taken}
 use Rattle.addition.proofs.Additions.{not_conflicting, accepted}
 use Rattle.addition.proofs.add.Goals as goal
 
@@ -15,7 +16,7 @@ returns-then-outside c mandates users =
     c.if-number-ge-FLOWS.false
     c.databases-reach.ensures
     c.roles_by_flow-may.ensures
-    c.conflicts.ensures
+    (c.conflicts.ensures ∙ conflicts_taken _ _ _)
     (sym c.outside.ensures ∙ c.if-outside.true)
 
 pub returns : goal.returns
@@ -28,7 +29,7 @@ returns c mandates users =
     c.if-number-ge-FLOWS.false
     c.databases-reach.ensures
     c.roles_by_flow-may.ensures
-    c.conflicts.ensures
+    (c.conflicts.ensures ∙ conflicts_taken _ _ _)
     (sym c.outside.ensures ∙ c.if-outside.false)
     c.deny_before.ensures
     c.union-deny.ensures

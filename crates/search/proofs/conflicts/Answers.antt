@@ -56,7 +56,5 @@ loop-held-preserved c =
 
 pub returns : goal.returns
 returns c =
-    let may = c.args.may.now in
     let e : c.loop-held.held-index ≡ user_count = omega arith in
-    let least : c.min.result ≡ min c.args.n (length may) = omega (arith, c.min.ensures) in
-    found_all _ may _ _ _ (rw e at c.loop-held.invariant) (ap (λ (m : ℕ). take m may) least ∙ take_min c.args.n may)
+    found_all _ _ _ (rw e at c.loop-held.invariant)

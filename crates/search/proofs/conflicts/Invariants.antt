@@ -1,4 +1,4 @@
--- Outer loop: what is found is the roles of those users passed whose roles meet two of the sets that are there.
+-- Outer loop: what is found is the roles of those users passed whose roles meet two of the sets.
 -- Inner loop: `seen` is how many of the sets passed the user's roles meet, and no more than one.
 use Prim.Native.Nat.{◌≤◌}
 use mathlib.Core.Path.{◌≡◌}
@@ -10,7 +10,7 @@ use Rattle.search.proofs.Laws.{Found}
 use Rattle.search.proofs.conflicts.Given as goal
 
 abbrev pub invariant-flows : goal.invariant-flows
-invariant-flows l = (l.seen ≤ 1) × (count l.set-index (λ g. meeting role_count l.held (get_or l.flows g 0)) ≡ l.seen)
+invariant-flows l = (l.seen ≤ 1) × (count l.set-index (λ g. meeting role_count l.held (get_or l.may g 0)) ≡ l.seen)
 
 abbrev pub invariant-loop-held : goal.invariant-loop-held
-invariant-loop-held l = Found role_count l.roles (λ v. leb 2 (count (length l.flows) (λ g. meeting role_count (get_or l.roles v 0) (get_or l.flows g 0)))) l.held-index l.found
+invariant-loop-held l = Found role_count l.roles (λ v. leb 2 (count (length l.may) (λ g. meeting role_count (get_or l.roles v 0) (get_or l.may g 0)))) l.held-index l.found
