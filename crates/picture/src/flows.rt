@@ -1,11 +1,11 @@
 // The left half of the picture: a band for each flow, with its databases and the roles that may read
 // them. What belongs to several flows stands in the band of each.
-use super::members::Members;
 use super::names::Name;
 use super::page::Page;
 use super::shapes;
 use super::shapes::{Area, Class, Look, Point, Step};
 use model::Constraint;
+use sets::Members;
 use std::fmt;
 use tables::{Tables, lent};
 

@@ -7,7 +7,6 @@
 mod arguments;
 mod flows;
 mod legend;
-mod members;
 mod names;
 mod overlaps;
 mod page;

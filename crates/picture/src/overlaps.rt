@@ -2,7 +2,6 @@
 // overlaps with, in the colour of the flow that this one reads. So a square shows the colours of all its
 // flows.
 use super::flows::{Flow, LEAVING};
-use super::members::Members;
 use super::names::Name;
 use super::page::{Height, Page};
 use super::session::Session;
@@ -10,6 +9,7 @@ use super::shapes::{Area, Class, Look, Point, Step};
 use super::users::Pair;
 use super::{shapes, users};
 use model::Engine;
+use sets::Members;
 use std::fmt;
 use tables::lent;
 

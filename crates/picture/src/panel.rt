@@ -1,6 +1,5 @@
 // The text beside the picture: the constraint of each flow, and why each role conflicts.
 use super::flows::Flow;
-use super::members::Members;
 use super::names::{LINE, Name, Names};
 use super::overlaps::Overlap;
 use super::page::{Height, Page};
@@ -8,6 +7,7 @@ use super::session::Session;
 use super::shapes::{Class, Look, Point};
 use super::{flows, shapes};
 use model::Engine;
+use sets::Members;
 use std::fmt;
 use std::fmt::{Display, Write};
 

@@ -1,10 +1,10 @@
 // The users who hold two roles: on an edge where they are few, else in a list below the picture.
-use super::members::Members;
 use super::names::{LINE, Name, Names};
 use super::page::{Height, Page};
 use super::shapes;
 use super::shapes::{Class, Look, Point};
 use model::Engine;
+use sets::Members;
 use std::fmt;
 use std::fmt::{Display, Write};
 

@@ -9,6 +9,8 @@ ghost use Rattle.std.specs.Prelude.{◌≡◌, get_or, set};
 ghost use Rattle.rows.specs.Rows.{width, there, entered, struck, image};
 ghost use Rattle.rows.specs.Reach.{level, reach};
 
+use sets::Members;
+
 // How many numbers a row can hold: as many as a u64 has bits.
 pub const WIDTH: usize = 64;
 
@@ -56,17 +58,13 @@ pub fn there(rows: &[u64], a: usize, b: usize) -> bool
 }
 
 // The union of the rows of the members of s, one member after the other.
-#[tactic(auto, using(sets::proofs::Laws::next_member, sets::proofs::Laws::remove_falls))]
+#[tactic(auto, unfolding(sets::specs::Sets::IsLowest))]
 pub fn image(rows: &[u64; WIDTH], s: u64) -> u64
     ensures { result ≡ image width width (there rows.now) s }
 {
-    // Kept: it goes over the members themselves. An iterator of them would serve here alone.
-    let mut left = s;
     let mut found = 0;
-    while left != 0 {
-        let a = left.trailing_zeros() as usize;
+    for a in Members(s) {
         found = sets::union(found, rows[a]);
-        left = sets::remove(left, a);
     }
     found
 }

@@ -13,7 +13,7 @@ use lib.Pow.{pow_pos, pow_mono, pow-lt, mod-pow-add, mod-mod-pow, field, shr-shr
 use lib.Bits.{bit_and, bit_or, and_shr, or_shr, and_mod, or_mod, or_lt, and_lt, or_disjoint}
 use lib.Count.{ones, ones_cat, count_trailing_zeros, under}
 use borrow.Author.Tests.{eq-eqb, ne_eqb, eqb-true, leb-true, le-leb}
-use Rattle.sets.specs.Sets.{has, set_of, some, count, inserted, removed, joined, shared, lacking, meeting, size_of}
+use Rattle.sets.specs.Sets.{has, set_of, some, count, inserted, removed, joined, shared, lacking, meeting, size_of, IsLowest}
 
 -- ---- tests
 
@@ -666,6 +666,32 @@ lowest (suc k) x h = go (bit_cases x) (some_of (suc k) (has x) h) (lowest k (x /
         rw e (omega (arith, w.0), sym (has_half x t) ∙ w.1)
     go (inr e) r f = rw e (omega arith, has_odd x ∙ eq-eqb (x % 2) 1 e)
 
+-- and none below that one
+lowest_first : (k x i : ℕ) → i < count_trailing_zeros k x → has x i ≡ false
+unfolding count_trailing_zeros
+lowest_first zero x i l = absurd (omega arith)
+lowest_first (suc k) x i l = go (bit_cases x) i l (lowest_first k (x / 2))
+  where
+    t : ℕ
+    t = count_trailing_zeros k (x / 2)
+
+    go : (x % 2 ≡ 0) ⊎ (x % 2 ≡ 1) → (j : ℕ) → j < under (x % 2) t → ((m : ℕ) → m < t → has (x / 2) m ≡ false) → has x j ≡ false
+    go (inl e) zero m f = has_odd x ∙ ne_eqb (x % 2) 1 (omega arith)
+    go (inl e) (suc j) m f =
+        let q : suc j < under 0 t = rw e at m in
+        sym (has_half x j) ∙ f j (omega (arith, q))
+    go (inr e) j m f =
+        let q : j < under 1 t = rw e at m in
+        absurd (omega (arith, q))
+
 -- so a loop over what is left of a set has a next member
 pub next_member : (n x : ℕ) → x < 2 ^ n → (x ≡ 0 → ⊥) → (count_trailing_zeros n x < n) × (has x (count_trailing_zeros n x) ≡ true)
 next_member n x l h = lowest n x (sym (nonempty n x l) ∙ ap not (ne_eqb x 0 h))
+
+pub is_lowest : (n x : ℕ) → x < 2 ^ n → (x ≡ 0 → ⊥) → IsLowest n x (count_trailing_zeros n x)
+unfolding IsLowest
+is_lowest n x l h = let w = next_member n x l h in (w.0, w.1, lowest_first n x)
+
+-- and what is left without it is a smaller number
+pub lowest_falls : (n x : ℕ) → x < 2 ^ n → (x ≡ 0 → ⊥) → removed n x (count_trailing_zeros n x) < x
+lowest_falls n x l h = let w = next_member n x l h in remove_falls n x (count_trailing_zeros n x) l w.0 w.1

@@ -3,8 +3,12 @@
 // Every function answers for any number: one of 64 or more is in no set, and nothing puts it in.
 #![tactic(auto)]
 
+mod members;
+
 ghost use Rattle.std.specs.Prelude.{◌≡◌};
 ghost use Rattle.sets.specs.Sets.{has, inserted, removed, joined, shared, lacking, meeting, size_of};
+
+pub use members::Members;
 
 // How many numbers a set can hold.
 pub const SIZE: usize = 64;
