@@ -79,15 +79,6 @@ module _ {A : Type 0} where
 -- ---- an array that is filled from `at` on
 
 module _ (at : ℕ) (p : ℕ → ℕ) where
-  -- nothing yet, and one more
-  pub filled_start : (l : List ℕ) → l ≡ filled at p 0 l
-  unfolding filled
-  filled_start l = refl
-
-  pub filled_more : (n : ℕ) (l l' : List ℕ) (i v : ℕ) → l' ≡ filled at p n l → i ≡ at + n → v ≡ p n → set l' i v ≡ filled at p (n + 1) l
-  unfolding filled
-  filled_more n l l' i v e q h = rw (add-one, e, q, h)
-
   pub filled_cong : (q : ℕ → ℕ) (n : ℕ) (l : List ℕ) → ((i : ℕ) → i < n → p i ≡ q i) → filled at p n l ≡ filled at q n l
   unfolding filled
   filled_cong q zero l f = refl

@@ -1,6 +1,6 @@
 // The linkage engine in definitions: what it keeps, what can be asked of it, what it answers, and
-// what is promised of that. There is no code here, but for how one type of answer is made of another:
-// the crate `engine` has it.
+// what is promised of that. There is no code here but what makes an answer of a verdict and a refusal of
+// its number: the crate `engine` has the rest.
 #![tactic(auto)]
 
 mod calls;
