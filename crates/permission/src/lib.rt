@@ -14,7 +14,6 @@ use model::{Answer, Engine, Refusal, Version};
 use tables::lent;
 
 // The holders of role r get version v; whether there is one.
-// Kept: the index, which names a user in both arrays.
 fn renew(
     versions: &mut [Version; Engine::USERS],
     roles: &[u64; Engine::USERS],
@@ -24,9 +23,9 @@ fn renew(
     ensures { (result ≡ held_by user_count roles.now r) × (versions.new ≡ given (λ u. there roles.now u r) v user_count versions.old) }
 {
     let mut held = false;
-    for u in 0..Engine::USERS {
+    for (u, own) in versions.iter_mut().enumerate() {
         if lent::there(roles, u, r) {
-            versions[u] = v;
+            *own = v;
             held = true;
         }
     }

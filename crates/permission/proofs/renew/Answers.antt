@@ -3,6 +3,7 @@ use mathlib.Core.Path.{◌≡◌, sym, ◌∙◌}
 use mathlib.Core.Bool.{Bool, true, false}
 use native.Mathlib.Numerals.{add-one}
 use native.Mathlib.Omega.{arith}
+use Rattle.std.proofs.lemmas.List.{set-get_or}
 use Rattle.sets.specs.Sets.{some}
 use Rattle.sets.proofs.Laws.{or_none, some_none, some_suc, some_at}
 use Rattle.tables.specs.Tables.{held_by, user_count}
@@ -23,7 +24,7 @@ loop-u-preserved c =
     let holds = sym c.there.ensures in
     elim c.if-there.branch [
       | then-there w ↦ (w.held-is ∙ found _ _ (holds ∙ w.if-there.true), w.versions-is ∙ given_more _ _ _ _ _ before.1 (holds ∙ w.if-there.true))
-      | else-there w ↦ (w.held-is ∙ passed _ _ _ before.0 (holds ∙ w.if-there.false), w.versions-is ∙ given_same _ _ _ _ _ before.1 (holds ∙ w.if-there.false))
+      | else-there w ↦ (w.held-is ∙ passed _ _ _ before.0 (holds ∙ w.if-there.false), w.versions-is ∙ set-get_or _ _ _ ∙ given_same _ _ _ _ _ before.1 (holds ∙ w.if-there.false))
     ]
 
 pub returns : goal.returns
