@@ -9,8 +9,8 @@ ghost use Rattle.output.specs.Output.{room_at, ending, end_answer, end_written};
 use protocol::LONGEST;
 
 // The digit of v's last four bits.
-// Kept: this sum has no branch. With one, `reads` takes a tenth more time, and with a table more than
-// with the sum too (docs/PERFORMANCE.md).
+// Kept: this sum has no branch. With one, a list takes a tenth more time, with a table in the code 7 to 9
+// in 100 more, and with one that is lent up to 4 in 100 (docs/PERFORMANCE.md).
 #[tactic(auto, unfolding(protocol::specs::Digits::glyph))]
 pub fn glyph(v: u64) -> u8
     ensures { result ≡ glyph (v % 16) }
