@@ -7,24 +7,34 @@ use mathlib.Core.List.{List, [], ◌∷◌, ◌++◌}
 use native.Mathlib.Omega.{arith}
 use lib.Dec.{leb, ltb}
 use lib.ListN.{length, take}
-use borrow.Author.Tests.{le-leb, lt-leb, leb-true, lt-ltb, le-ltb, ltb-true, ltb-false}
+use borrow.Author.Tests.{le-leb, lt-leb, leb-true, ltb-true, ltb-false}
+use Rattle.std.specs.Prelude.{Option}
+use Rattle.std.specs.Option.{is_some}
 use Rattle.protocol.specs.Widths.{kept}
 use Rattle.protocol.specs.Lines.{line_feed, call_of}
 use Rattle.protocol.specs.Run.{feed_at}
 use Rattle.protocol.proofs.Laws.{NoFeed, none, longer, empty_line, feed_within, feed_at_le, no_feed_of}
+use Rattle.pieces.specs.Pieces.{feed_from}
+use Rattle.pieces.proofs.Feeds.{feed_known}
 use Rattle.decoding.specs.Frames.{framing, IsFramed}
 
 pub framing_long : (line : List ℕ) → kept ≤ length line → [] ≡ framing line
 unfolding framing
 framing_long line l = rw (le-leb kept (length line) l) refl
 
-pub framing_feed : (line : List ℕ) → length line < kept → feed_at line < length line → [] ≡ framing line
-unfolding framing
-framing_feed line l k = rw (lt-leb kept (length line) l, lt-ltb (feed_at line) (length line) k) refl
+module _ (line : List ℕ) (short : length line < kept) {place : Option ℕ} (found : place ≡ feed_from line 0) where
+  there : ltb (feed_at line) (length line) ≡ is_some place
+  there =
+      let none : 0 + feed_at line ≡ feed_at line = omega arith in
+      sym (feed_known line 0 found ∙ rw none)
 
-pub framing_line : (line : List ℕ) → length line < kept → length line ≤ feed_at line → line ≡ framing line
-unfolding framing
-framing_line line l k = rw (lt-leb kept (length line) l, le-ltb (feed_at line) (length line) k) refl
+  pub framing_feed : is_some place ≡ true → [] ≡ framing line
+  unfolding framing
+  framing_feed t = rw (lt-leb kept (length line) short, there, t) refl
+
+  pub framing_line : is_some place ≡ false → line ≡ framing line
+  unfolding framing
+  framing_line t = rw (lt-leb kept (length line) short, there, t) refl
 
 pub is_framed : (line framed bytes : List ℕ) → framed ≡ framing line → length framed < kept → take (length framed + 1) bytes ≡ framed ++ (line_feed ∷ [])
     → IsFramed line (record { bytes = bytes; len = length framed + 1 })

@@ -56,19 +56,13 @@ module _ (high low : List ℕ) where
 
 -- ---- fields
 
--- a rest that is too short, has no line feed where it should, or has a pair that is not of digits, does not end as it should; so what is read is `bad`
-module _ {A : Type 0} (good bad : A) (high low s : List ℕ) (n : ℕ) where
-  pub too_short : length s ≤ 2 * n → bad ≡ cond (ended_by high low s n) good bad
-  unfolding ended_by
-  too_short h = rw (le-ltb (2 * n) (length s) h)
+-- whether a line feed stands behind n pairs
+abbrev pub feed_behind : List ℕ → ℕ → Bool
+feed_behind s n = ltb (2 * n) (length s) && eqb (get_or s (2 * n) 0) line_feed
 
-  pub no_feed : (get_or s (2 * n) 0 ≡ line_feed → ⊥) → bad ≡ cond (ended_by high low s n) good bad
-  unfolding ended_by
-  no_feed h = rw (ne_eqb (get_or s (2 * n) 0) line_feed h, and-false (ltb (2 * n) (length s)))
-
-  pub not_right : pairs_right high low s n ≡ false → bad ≡ cond (ended_by high low s n) good bad
-  unfolding ended_by
-  not_right h = rw (h, and-false (eqb (get_or s (2 * n) 0) line_feed), and-false (ltb (2 * n) (length s)))
+ended_is : (high low s : List ℕ) (n : ℕ) → ended_by high low s n ≡ (feed_behind s n && pairs_right high low s n)
+unfolding ended_by
+ended_is high low s n = sym (and_assoc (ltb (2 * n) (length s)) (eqb (get_or s (2 * n) 0) line_feed) (pairs_right high low s n))
 
 pub ended_right : (high low s : List ℕ) (n : ℕ) → 2 * n < length s → get_or s (2 * n) 0 ≡ line_feed → pairs_right high low s n ≡ true → ended_by high low s n ≡ true
 unfolding ended_by
@@ -161,14 +155,14 @@ module _ {high low s pairs : List ℕ} {n i : ℕ} (g : Sofar high low s n pairs
       let whole : pairs ≡ pairs_at high low s i = sym (take_all i pairs (omega (arith, g.long))) ∙ g.first in
       rw (all, g.right, ← whole)
 
-module _ (high low s : List ℕ) (n : ℕ) (long : 2 * n < length s) (feed : get_or s (2 * n) 0 ≡ line_feed) where
-  ended_pairs : ended_by high low s n ≡ pairs_right high low s n
-  unfolding ended_by
-  ended_pairs = rw (lt-ltb (2 * n) (length s) long, eq-eqb (get_or s (2 * n) 0) line_feed feed)
+module _ (high low s : List ℕ) (n : ℕ) {t : Bool} (is : t ≡ feed_behind s n) where
+  pub fields_open : t ≡ false → None ≡ fields_read high low s n
+  unfolding fields_read
+  fields_open e = rw (ended_is high low s n, ← is, e)
 
-  pub fields_right : {r : Option (List ℕ)} → r ≡ pairs_read high low s n → r ≡ fields_read high low s n
+  pub fields_right : t ≡ true → {r : Option (List ℕ)} → r ≡ pairs_read high low s n → r ≡ fields_read high low s n
   unfolding pairs_read fields_read
-  fields_right e = e ∙ rw ended_pairs
+  fields_right e read = rw (ended_is high low s n, ← is, e) read
 
 -- what is made of n fields that were read, and that nothing is made of what wasn't
 module _ {A : Type 0} (high low s : List ℕ) (n : ℕ) (make : List ℕ → A) {r : Option (List ℕ)} (read : r ≡ fields_read high low s n) where
@@ -230,26 +224,34 @@ set_none high low s read e = rw (no_test (pairs_right high low s 8) _ (sym e ∙
 
 -- ---- two fields and a role set behind them
 
-module _ (high low s : List ℕ) (long : 20 < length s) (feed : get_or s 20 0 ≡ line_feed) {r : Option (List ℕ)} (two : r ≡ pairs_read high low s 2) where
-  pub addition_none : r ≡ None → None ≡ addition high low s
-  unfolding addition pairs_read
-  addition_none e = not_right _ _ high low s 10 (pairs_split high low 2 8 s ∙ rw (no_test (pairs_right high low s 2) _ (sym e ∙ two)))
+module _ (high low s : List ℕ) {t : Bool} (is : t ≡ feed_behind s 10) where
+  pub addition_open : t ≡ false → None ≡ addition high low s
+  unfolding addition
+  addition_open e = rw (ended_is high low s 10, ← is, e)
 
-  module _ {m : Option ℕ} (set : m ≡ chosen_set high low (take (length s - 4) (drop 4 s))) where
-    chosen : m ≡ chosen_set high low (drop 4 s)
-    chosen = rw (to_end 4 s (omega arith)) at set
+  module _ (behind : t ≡ true) {r : Option (List ℕ)} (two : r ≡ pairs_read high low s 2) where
+    -- it ends as it should where its pairs are of digits
+    ended_pairs : ended_by high low s 10 ≡ (pairs_right high low s 2 && pairs_right high low (drop 4 s) 8)
+    ended_pairs = ended_is high low s 10 ∙ rw (← is, behind) (pairs_split high low 2 8 s)
 
-    pub addition_unset : m ≡ None → None ≡ addition high low s
-    unfolding addition chosen_set
-    addition_unset e = not_right _ _ high low s 10 (pairs_split high low 2 8 s ∙ rw (no_test (pairs_right high low (drop 4 s) 8) _ (sym e ∙ chosen)) (and-false (pairs_right high low s 2)))
+    pub addition_none : r ≡ None → None ≡ addition high low s
+    unfolding addition pairs_read
+    addition_none e = rw (ended_pairs, no_test (pairs_right high low s 2) _ (sym e ∙ two))
 
-    pub addition_some : {xs : List ℕ} {c : ℕ} → r ≡ Some xs → m ≡ Some c → Some (fields_of 22 (get_or xs 0 0) (get_or xs 1 0) 0 0 c) ≡ addition high low s
-    unfolding addition pairs_read pairs_at chosen_set
-    addition_some {xs} {c} e f =
-        let p = read_test (pairs_right high low s 2) (sym e ∙ two) in
-        let q = read_test (pairs_right high low (drop 4 s) 8) (sym f ∙ chosen) in
-        let t : pairs_right high low s 10 ≡ true = pairs_split high low 2 8 s ∙ rw (p.0, q.0) in
-        rw (ended_right high low s 10 long feed t, p.1, q.1)
+    module _ {m : Option ℕ} (set : m ≡ chosen_set high low (take (length s - 4) (drop 4 s))) where
+      chosen : m ≡ chosen_set high low (drop 4 s)
+      chosen = let l : 20 < length s = ltb-true 20 (length s) (and_both (ltb 20 (length s)) _ (sym is ∙ behind)).0 in rw (to_end 4 s (omega arith)) at set
+
+      pub addition_unset : m ≡ None → None ≡ addition high low s
+      unfolding addition chosen_set
+      addition_unset e = rw (ended_pairs, no_test (pairs_right high low (drop 4 s) 8) _ (sym e ∙ chosen), and-false (pairs_right high low s 2))
+
+      pub addition_some : {xs : List ℕ} {c : ℕ} → r ≡ Some xs → m ≡ Some c → Some (fields_of 22 (get_or xs 0 0) (get_or xs 1 0) 0 0 c) ≡ addition high low s
+      unfolding addition pairs_read pairs_at chosen_set
+      addition_some {xs} {c} e f =
+          let p = read_test (pairs_right high low s 2) (sym e ∙ two) in
+          let q = read_test (pairs_right high low (drop 4 s) 8) (sym f ∙ chosen) in
+          rw (ended_pairs, p.0, q.0, p.1, q.1)
 
 -- ---- the frame that an input begins with
 

@@ -18,22 +18,26 @@ pub struct NextLine {
 }
 
 // The line from a place on; none where no line feed follows.
+#[tactic(
+    auto,
+    using(
+        crate::proofs::Places::next_past,
+        crate::proofs::Places::next_fits,
+        crate::proofs::Places::next_frame,
+        crate::proofs::Places::next_other,
+        crate::proofs::Places::next_none
+    )
+)]
 pub fn next_line(digits: &Digits, s: &[u8], at: usize) -> Option<NextLine>
     ensures { result ≡ next_by digits.now.high digits.now.low s.now at }
 {
-    if s.len() < at {
-        return None;
-    }
-    if let Some(frame) = read::decode(digits, &s[at..]) {
+    if let Some(frame) = read::decode(digits, s.get(at..)?) {
         return Some(NextLine {
             call: frame.call,
             end: at + frame.digits,
         });
     }
-    let end = pieces::find_feed(s, at);
-    if s.len() <= end {
-        return None;
-    }
+    let end = pieces::find_feed(s, at)?;
     Some(NextLine {
         call: Call::Unreadable,
         end,
@@ -59,8 +63,18 @@ pub struct Framed {
     pub len: usize,
 }
 
+impl Framed {
+    // The line with its line feed.
+    pub fn as_bytes(&self) -> &[u8]
+        ensures { result.now ≡ take self.now.len self.now.bytes }
+    {
+        &self.bytes[..self.len.min(KEPT)]
+    }
+}
+
 // What of a line is taken for a frame: all, or nothing where it is longer than every frame or has a line
 // feed in it.
+#[tactic(auto, using(crate::proofs::Framing::framing_long, crate::proofs::Framing::framing_feed, crate::proofs::Framing::framing_line))]
 fn framing(line: &[u8]) -> &[u8]
     ensures framing { result.now ≡ framing line.now }
     ensures short { length result.now < kept }
@@ -68,7 +82,7 @@ fn framing(line: &[u8]) -> &[u8]
     if KEPT <= line.len() {
         return &[];
     }
-    if pieces::find_feed(line, 0) < line.len() {
+    if pieces::find_feed(line, 0).is_some() {
         return &[];
     }
     line
@@ -76,6 +90,7 @@ fn framing(line: &[u8]) -> &[u8]
 
 // A line that came without its line feed, as the next line of an input. What can be no frame becomes the
 // empty line, which is none either.
+#[tactic(auto, using(crate::proofs::Framing::is_framed))]
 pub fn as_frame(line: &[u8]) -> Framed
     ensures { IsFramed line.now result }
 {

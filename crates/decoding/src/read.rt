@@ -1,6 +1,6 @@
 // Reading a frame: two digits give the kind, and the fields are taken from the rest of the line.
-ghost use Rattle.std.specs.Prelude.{◌≡◌, ◌+◌, ◌*◌, ◌≤◌, length};
-ghost use Rattle.protocol.specs.Lines.{rest_digits, call_of};
+ghost use Rattle.std.specs.Prelude.{◌≡◌, ◌+◌, ◌*◌, ◌≤◌, ◌&&◌, eqb, ltb, length, get_or};
+ghost use Rattle.protocol.specs.Lines.{line_feed, rest_digits, call_of};
 ghost use Rattle.decoding.specs.Fields.{pair_read, pairs_read, fields_read, chosen_set, addition, fields_by};
 ghost use Rattle.decoding.specs.Frames.{frame_by};
 ghost use Rattle.kinds.specs.Kinds.{number_of_kind};
@@ -50,15 +50,20 @@ fn pairs<const N: usize>(digits: &Digits, s: &[u8]) -> Option<[usize; N]>
     Some(pairs)
 }
 
+// Whether a line feed stands behind the first n bytes.
+fn ends_behind(s: &[u8], n: usize) -> bool
+    ensures { result ≡ (ltb n (length s.now) && eqb (get_or s.now n 0) line_feed) }
+{
+    s.get(n) == Some(&b'\n')
+}
+
 // The same, where a line feed stands behind them.
+#[tactic(auto, using(crate::proofs::Reading::fields_open, crate::proofs::Reading::fields_right))]
 fn fields<const N: usize>(digits: &Digits, s: &[u8]) -> Option<[usize; N]>
     requires { N ≤ 4 }
     ensures { result ≡ fields_read digits.now.high digits.now.low s.now N }
 {
-    if s.len() <= 2 * N {
-        return None;
-    }
-    if s[2 * N] != b'\n' {
+    if !ends_behind(s, 2 * N) {
         return None;
     }
     pairs(digits, s)
@@ -78,13 +83,19 @@ fn role_set(digits: &Digits, s: &[u8]) -> Option<u64>
 }
 
 // Two fields and a role set.
+#[tactic(
+    auto,
+    using(
+        crate::proofs::Reading::addition_open,
+        crate::proofs::Reading::addition_none,
+        crate::proofs::Reading::addition_unset,
+        crate::proofs::Reading::addition_some
+    )
+)]
 fn fields_and_set(digits: &Digits, s: &[u8]) -> Option<Rest>
     ensures { result ≡ addition digits.now.high digits.now.low s.now }
 {
-    if s.len() <= ADDITION {
-        return None;
-    }
-    if s[ADDITION] != b'\n' {
+    if !ends_behind(s, ADDITION) {
         return None;
     }
     let [a, b] = pairs::<2>(digits, s)?;

@@ -1,14 +1,15 @@
 -- What the tables of the digits hold, and so what two bytes count for.
 -- Assumes nothing.
-use Prim.Native.Nat.{ℕ, zero, suc, ◌+◌, ◌*◌, ◌<◌}
+use Prim.Native.Nat.{ℕ, zero, suc, ◌+◌, ◌*◌, ◌<◌, ◌≤◌}
 use mathlib.Core.Path.{◌≡◌, refl, sym, ◌∙◌}
 use mathlib.Core.Bool.{Bool, true, false, cond, ◌&&◌, true≢false}
 use mathlib.Core.List.{List, [], ◌∷◌}
-use native.Mathlib.Nat.{add-zero, add-suc, suc-add, zero-add, le_of_suc-le-suc, not-suc-le-zero}
+use native.Mathlib.Numerals.{add-one}
+use native.Mathlib.Nat.{mul-le-mul, add-zero, add-suc, suc-add, zero-add, le_of_suc-le-suc, not-suc-le-zero}
 use native.Mathlib.Decide.{dec_lt}
 use native.Mathlib.Omega.{arith}
 use lib.Dec.{ltb, eqb}
-use lib.ListN.{length, get_or}
+use lib.ListN.{length, get_or, set}
 use borrow.Author.Tests.{lt-ltb, le-ltb, eqb-true}
 use Rattle.sets.proofs.Laws.{and_both}
 use Rattle.protocol.specs.Digits.{digit, all_digits, number_from, number, glyph}
@@ -34,9 +35,21 @@ entry_at f vs t k h = rw (zero-add k) at (listed_at f 0 vs t k h)
 abbrev glyphs : List ℕ
 glyphs = 48 ∷ 49 ∷ 50 ∷ 51 ∷ 52 ∷ 53 ∷ 54 ∷ 55 ∷ 56 ∷ 57 ∷ 97 ∷ 98 ∷ 99 ∷ 100 ∷ 101 ∷ 102 ∷ []
 
-pub glyph_at : (v : ℕ) → v < 16 → get_or glyphs v 0 ≡ glyph v
+glyph_at : (v : ℕ) → v < 16 → get_or glyphs v 0 ≡ glyph v
 unfolding glyph listed
 glyph_at v h = entry_at glyph glyphs refl v h
+
+-- ---- a table, digit by digit
+
+pub table_fits : (value times : ℕ) → value < 16 → times ≤ 16 → value * times < 65536
+table_fits value times v t =
+    let few : value ≤ 16 = omega arith in
+    let most : value * times ≤ 16 * 16 = mul-le-mul few t in
+    omega arith
+
+pub table_more : {table : List ℕ} (times value byte : ℕ) → table ≡ digit_table times value → byte ≡ get_or glyphs value 0 → value < 16 → set table byte (value * times) ≡ digit_table times (value + 1)
+unfolding digit_table
+table_more times value byte so b v = rw (add-one value, so, b, glyph_at value v)
 
 -- so many times the value of a digit
 abbrev counts : ℕ → ℕ → ℕ

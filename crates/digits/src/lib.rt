@@ -15,6 +15,7 @@ const NO_DIGIT: u16 = 256;
 const GLYPHS: [u8; 16] = *b"0123456789abcdef";
 
 // Number b: so many times the value of byte b, or that it is no digit.
+#[tactic(auto, using(crate::proofs::Meaning::table_fits, crate::proofs::Meaning::table_more), unfolding(crate::specs::Tables::digit_table))]
 fn table(times: u16) -> [u16; BYTES]
     requires { times ≤ 16 }
     ensures { result ≡ digit_table times 16 }
@@ -35,6 +36,7 @@ pub struct Digits {
 
 impl Digits {
     // The tables of the digits.
+    #[tactic(auto, unfolding(crate::specs::Tables::high_table, crate::specs::Tables::low_table))]
     pub fn new() -> Digits
         ensures high { result.high ≡ high_table }
         ensures low { result.low ≡ low_table }

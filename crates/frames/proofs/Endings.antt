@@ -9,7 +9,7 @@ use native.Mathlib.Omega.{arith}
 use lib.Dec.{eqb, leb}
 use lib.ListN.{length, take, drop, length-append, length-drop}
 use lib.Seq.{take_at, drop_at, drop-drop}
-use borrow.Author.Tests.{le-leb, eq-eqb, ne_eqb}
+use borrow.Author.Tests.{le-leb, eq-eqb, ne_eqb, ltb-true, ltb-false}
 use Rattle.model.specs.declared.Engine.{Engine}
 use Rattle.model.specs.declared.calls.Call.{Call}
 use Rattle.model.specs.State.{fresh}
@@ -20,6 +20,9 @@ use Rattle.protocol.specs.Lines.{call_of, values, line_of, line_feed}
 use Rattle.protocol.specs.Run.{last_call, reply, replies, run, Fed, wrote, fed, feed_at, finish, shown_in}
 use Rattle.protocol.proofs.Laws.{more, run_more, more_end, more_line, feed_at_le, feed_there, no_feed_of, no_feed_before, no_more, one_line, fed_run, fed_left, fed_fits}
 use Rattle.std.specs.Prelude.{Option, None}
+use Rattle.std.specs.Option.{is_some}
+use Rattle.pieces.specs.Pieces.{feed_from}
+use Rattle.pieces.proofs.Feeds.{feed_known}
 use Rattle.frames.specs.declared.lent.Fed.{Fed as Given}
 use Rattle.output.specs.Output.{ending, end_answer, end_written}
 use Rattle.frames.specs.Stream.{Feeds, takes_whole, ran_output, Ran}
@@ -103,13 +106,13 @@ room_enough input room l =
 
 -- ---- what is fed of the whole input, and its end behind it
 
-pub from_fresh : {input old new : List ℕ} {e e₀ : Engine} {f : Given} → e₀ ≡ fresh → Feeds input old new e (fed (length old) e₀ input) f → Feeds input old new e (fed (length old) fresh input) f
-from_fresh {input} {old} {new} {e} {e₀} {f} q g = subst (λ (x : Engine). Feeds input old new e (fed (length old) x input) f) q g
-
 abbrev fed_in : List ℕ → List ℕ → Fed
 fed_in input old = fed (length old) fresh input
 
-module _ (input old new : List ℕ) (e : Engine) (f : Given) (g : Feeds input old new e (fed (length old) fresh input) f) where
+module _ (input old new : List ℕ) (e₀ e : Engine) (f : Given) (begun : e₀ ≡ fresh) (given : Feeds input old new e (fed (length old) e₀ input) f) where
+  g : Feeds input old new e (fed (length old) fresh input) f
+  g = subst (λ (x : Engine). Feeds input old new e (fed (length old) x input) f) begun given
+
   pub taken_within : f.consumed ≤ length input
   taken_within = omega (arith, g.consumed)
 
@@ -120,18 +123,18 @@ module _ (input old new : List ℕ) (e : Engine) (f : Given) (g : Feeds input ol
   left_here = (fed_left (length old) fresh input).1 ∙ ap (λ (n : ℕ). drop n input) (sym g.consumed)
 
   -- not every whole line was taken
-  pub ran_short : (at : ℕ) → at ≡ f.consumed + feed_at (drop f.consumed input) → at < length input → Ran input old new None
+  pub ran_short : {place : Option ℕ} → place ≡ feed_from input f.consumed → is_some place ≡ true → Ran input old new None
   unfolding takes_whole ran_output
-  ran_short at p h = record { answer = rw some; output = rw some g.output; begins = begins_with input (length old); roomy = room_enough input (length old) }
+  ran_short p t = record { answer = rw some; output = rw some g.output; begins = begins_with input (length old); roomy = room_enough input (length old) }
     where
       some : eqb (feed_at (fed_in input old).left) (length (fed_in input old).left) ≡ false
-      some = ne_eqb (feed_at (fed_in input old).left) (length (fed_in input old).left) (λ q. omega (arith, p, q, left_long, ap feed_at left_here))
+      some = ne_eqb (feed_at (fed_in input old).left) (length (fed_in input old).left) (λ q. omega (arith, ltb-true _ _ (sym (feed_known input f.consumed p) ∙ t), q, left_long, ap feed_at left_here))
 
   -- all of them were
-  pub ran_end : (at : ℕ) (out : List ℕ) (r : Option ℕ) → at ≡ f.consumed + feed_at (drop f.consumed input) → length input ≤ at
+  pub ran_end : (out : List ℕ) (r : Option ℕ) {place : Option ℕ} → place ≡ feed_from input f.consumed → is_some place ≡ false
       → r ≡ end_answer new f.written (ending (length input - f.consumed)) → out ≡ end_written new f.written (ending (length input - f.consumed)) → Ran input old out r
   unfolding takes_whole ran_output end_answer end_written
-  ran_end at out r p h a o =
+  ran_end out r p t a o =
       record {
         answer = a ∙ rw (g.written, put.0, eq-eqb (feed_at (fed_in input old).left) (length (fed_in input old).left) all, whole, length-append (fed_in input old).written last);
         output = o ∙ rw (g.written, put.0, eq-eqb (feed_at (fed_in input old).left) (length (fed_in input old).left) all, whole, length-append (fed_in input old).written last) (by (leb (length (fed_in input old).written + length last) (length old)));
@@ -143,7 +146,7 @@ module _ (input old new : List ℕ) (e : Engine) (f : Given) (g : Feeds input ol
       last = ending (length input - f.consumed)
 
       all : feed_at (fed_in input old).left ≡ length (fed_in input old).left
-      all = omega (arith, p, left_long, ap feed_at left_here, feed_at_le (fed_in input old).left)
+      all = omega (arith, ltb-false _ _ (sym (feed_known input f.consumed p) ∙ t), left_long, ap feed_at left_here, feed_at_le (fed_in input old).left)
 
       put : (length new ≡ length old) × (take (length (fed_in input old).written) new ++ (last ++ drop (length (fed_in input old).written + length last) new) ≡ ((fed_in input old).written ++ last) ++ drop (length (fed_in input old).written + length last) old)
       put = whole_put (fed_in input old).written last old new (fed_fits (length old) fresh input) g.output

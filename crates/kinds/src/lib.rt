@@ -28,6 +28,7 @@ pub enum Kind {
 pub struct NoSuchKind(pub usize);
 
 // The product of a number, among those of kinds that have one.
+#[tactic(auto, unfolding(crate::specs::Kinds::product_of))]
 fn product_of(number: usize) -> Product
     ensures { result ≡ product_of number }
 {
@@ -40,7 +41,7 @@ fn product_of(number: usize) -> Product
 
 // The kind that has this number. The numbers of the two products share an arm: they come in any order,
 // and a branch that tells them apart costs more, where it is mispredicted, than the read.
-#[tactic(auto, unfolding(crate::specs::Kinds::number_of_kind))]
+#[tactic(auto, using(crate::proofs::Laws::numbered), unfolding(crate::specs::Kinds::number_of_kind, crate::specs::Kinds::product_of))]
 impl TryFrom<usize> for Kind {
     type Error = NoSuchKind;
 
@@ -73,6 +74,17 @@ pub struct Fields {
 }
 
 // The call of a kind with these fields, of which a kind takes the first ones.
+#[tactic(
+    auto,
+    using(
+        crate::proofs::Laws::open_called,
+        crate::proofs::Laws::conflicting_called,
+        crate::proofs::Laws::add_called,
+        crate::proofs::Laws::read_called,
+        crate::proofs::Laws::show_called
+    ),
+    unfolding(crate::specs::Kinds::field_in, crate::specs::Kinds::number_of_kind, protocol::specs::Lines::called_by)
+)]
 pub fn call_of(kind: Kind, fields: Fields) -> Call
     ensures { result ≡ called_by (number_of_kind kind) (field_in fields) fields.chosen }
 {

@@ -1,64 +1,75 @@
 -- A line feed is looked for as the first byte that is one.
 -- Assumes nothing.
-use Prim.Native.Nat.{ℕ, suc, ◌+◌, ◌-◌, ◌<◌, ◌≤◌, min}
-use mathlib.Core.Path.{◌≡◌, refl, ap, ◌∙◌}
-use mathlib.Core.Bool.{Bool, true, false, cond, not}
-use mathlib.Core.List.{List, [], ◌∷◌}
+use Prim.Native.Nat.{ℕ, ◌+◌, ◌-◌, ◌<◌, ◌≤◌}
+use mathlib.Core.Path.{◌≡◌, refl, sym, ap, ◌∙◌}
+use mathlib.Core.Bool.{Bool, true, false, cond}
+use mathlib.Core.List.{List}
+use native.Mathlib.Numerals.{one-add}
 use native.Mathlib.Decide.{dec_lt}
 use native.Mathlib.Omega.{arith}
 use lib.Dec.{eqb, ltb}
-use lib.ListN.{length, take, drop, length-drop, drop_of_length-le}
-use lib.Seq.{take-nil, take_all}
-use borrow.Author.Tests.{lt-ltb, le-ltb}
-use Rattle.std.specs.List.{position, position_or_len}
-use Rattle.std.specs.Prelude.{Option, Some, None}
-use Rattle.std.specs.Option.{unwrap_or, is_some}
+use lib.ListN.{length, drop, length-drop}
+use lib.Seq.{take_all}
+use borrow.Author.Tests.{lt-ltb, le-ltb, ltb-false}
+use Rattle.std.specs.Option.{is_some}
+use Rattle.std.specs.List.{position, position_or_len, slice_range}
+use Rattle.std.proofs.lemmas.List.Recursion.{is_position_or_len}
+use Rattle.std.specs.Prelude.{Option, Some, None, option_map}
 use Rattle.protocol.specs.Lines.{line_feed}
 use Rattle.protocol.specs.Run.{feed_at}
-use Rattle.protocol.proofs.Laws.{feed_at_le}
+use Rattle.pieces.specs.Pieces.{feed_from}
 
-first : (s : List ℕ) → position_or_len (λ b. eqb b line_feed) s ≡ feed_at s
+-- where the first one stands
+pub first : (s : List ℕ) → position (λ b. eqb b line_feed) s ≡ cond (ltb (feed_at s) (length s)) (Some (feed_at s)) None
 unfolding feed_at
-first [] = refl
-first (b ∷ s) = go (eqb b line_feed) (first s)
+first s = ap (λ (n : ℕ). cond (ltb n (length s)) (Some n) None) (sym (at s))
   where
-    go : (t : Bool) → position_or_len (λ x. eqb x line_feed) s ≡ feed_at s → cond (not t) (1 + position_or_len (λ x. eqb x line_feed) s) 0 ≡ cond t 0 (suc (feed_at s))
-    go true e = refl
-    go false e = rw (← e) (omega arith)
+    at : (s : List ℕ) → feed_at s ≡ position_or_len (λ b. eqb b line_feed) s
+    at = is_position_or_len feed_at (λ b. eqb b line_feed) refl (λ b s. rw (one-add (feed_at s)))
 
--- the place of the first line feed, or the end
-pub first_or_end : (s : List ℕ) → unwrap_or (position (λ b. eqb b line_feed) s) (length s) ≡ feed_at s
-first_or_end s = go (position_or_len (λ b. eqb b line_feed) s) (first s) (dec_lt (feed_at s) (length s))
-  where
-    go : (n : ℕ) → n ≡ feed_at s → Dec (feed_at s < length s) → unwrap_or (cond (ltb n (length s)) (Some n) None) (length s) ≡ feed_at s
-    go n e (yes l) = rw (lt-ltb n (length s) (omega arith)) e
-    go n e (no l) = rw (le-ltb n (length s) (omega (arith, l))) (omega (arith, l, feed_at_le s))
+-- past the input's end there is none
+pub past_end : (s : List ℕ) (from : ℕ) → length s < from → None ≡ feed_from s from
+unfolding feed_from
+past_end s from l = rw (le-ltb (from + feed_at (drop from s)) (length s) (omega arith))
 
--- whether there is one
-pub first_there : (s : List ℕ) → is_some (position (λ b. eqb b line_feed) s) ≡ ltb (feed_at s) (length s)
-first_there s = go (position_or_len (λ b. eqb b line_feed) s) (first s)
-  where
-    some : (n : ℕ) (t : Bool) → is_some (cond t (Some n) None) ≡ t
-    some n true = refl
-    some n false = refl
+-- the first one of the rest of an input, at its place in the input
+module _ (s rest : List ℕ) (from : ℕ) (within : from ≤ length s) (part : rest ≡ slice_range s from (length s)) where
+  there : option_map (λ n. from + n) (position (λ b. eqb b line_feed) rest) ≡ feed_from s from
+  unfolding feed_from
+  there = rw (part, take_all (length s - from) (drop from s) (omega (arith, length-drop from s)), first (drop from s)) (go (dec_lt (feed_at (drop from s)) (length (drop from s))))
+    where
+      go : Dec (feed_at (drop from s) < length (drop from s))
+          → option_map (λ n. from + n) (cond (ltb (feed_at (drop from s)) (length (drop from s))) (Some (feed_at (drop from s))) None)
+          ≡ cond (ltb (from + feed_at (drop from s)) (length s)) (Some (from + feed_at (drop from s))) None
+      go (yes l) = rw (lt-ltb (feed_at (drop from s)) (length (drop from s)) l, lt-ltb (from + feed_at (drop from s)) (length s) (omega (arith, length-drop from s)))
+      go (no l) = rw (le-ltb (feed_at (drop from s)) (length (drop from s)) (omega (arith, l)), le-ltb (from + feed_at (drop from s)) (length s) (omega (arith, l, length-drop from s)))
 
-    go : (n : ℕ) → n ≡ feed_at s → is_some (cond (ltb n (length s)) (Some n) None) ≡ ltb (feed_at s) (length s)
-    go n e = rw e (some (feed_at s) (ltb (feed_at s) (length s)))
+  pub feed_found : {place : Option ℕ} {at : ℕ} → place ≡ position (λ b. eqb b line_feed) rest → place ≡ Some at → Some (from + at) ≡ feed_from s from
+  feed_found p q = ap (option_map (λ n. from + n)) (sym q ∙ p) ∙ there
 
--- what a part of an input that begins no later than its end has is what the input has from there on
-pub rest_from : (s : List ℕ) (from m : ℕ) → m ≡ min from (length s) → take (length s - m) (drop m s) ≡ drop from s
-rest_from s from m e = go (dec_lt (length s) from)
-  where
-    go : Dec (length s < from) → take (length s - m) (drop m s) ≡ drop from s
-    go (yes l) =
-        let d : m ≡ length s = omega arith in
-        let n : length s ≤ m = omega arith in
-        let b : length s ≤ from = omega arith in
-        rw (drop_of_length-le s {i = m} n, drop_of_length-le s {i = from} b, take-nil {A = ℕ} (length s - m))
-    go (no l) =
-        let d : m ≡ from = omega (arith, l) in
-        rw d (take_all (length s - from) (drop from s) (omega (arith, length-drop from s)))
+  pub feed_none : {place : Option ℕ} → place ≡ position (λ b. eqb b line_feed) rest → place ≡ None → None ≡ feed_from s from
+  feed_none p q = ap (option_map (λ n. from + n)) (sym q ∙ p) ∙ there
 
-pub found : (s : List ℕ) (from m n : ℕ) {place : Option ℕ} → m ≡ min from (length s) → place ≡ position (λ b. eqb b line_feed) (take (length s - m) (drop m s))
-    → n ≡ unwrap_or place (length (take (length s - m) (drop m s))) → n ≡ feed_at (drop from s)
-found s from m n e p q = q ∙ rw p (first_or_end (take (length s - m) (drop m s))) ∙ ap feed_at (rest_from s from m e)
+-- ---- what a caller knows of it
+
+module _ (s : List ℕ) (from : ℕ) {place : Option ℕ} (found : place ≡ feed_from s from) where
+  pub feed_known : is_some place ≡ ltb (from + feed_at (drop from s)) (length s)
+  unfolding feed_from
+  feed_known = rw found (go (ltb (from + feed_at (drop from s)) (length s)))
+    where
+      go : (t : Bool) → is_some (cond t (Some (from + feed_at (drop from s))) None) ≡ t
+      go true = refl
+      go false = refl
+
+  -- it stands behind the bytes that are none
+  pub feed_place : {n : ℕ} → place ≡ Some n → n ≡ from + feed_at (drop from s)
+  unfolding feed_from
+  feed_place {n} e = go (ltb (from + feed_at (drop from s)) (length s)) (sym e ∙ found)
+    where
+      go : (t : Bool) → Some n ≡ cond t (Some (from + feed_at (drop from s))) None → n ≡ from + feed_at (drop from s)
+      go true f = cc
+      go false f = absurd cc
+
+  -- where there is none, all bytes are none
+  pub none_behind : place ≡ None → length s ≤ from + feed_at (drop from s)
+  none_behind e = ltb-false (from + feed_at (drop from s)) (length s) (sym feed_known ∙ ap is_some e)

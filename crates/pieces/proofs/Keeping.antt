@@ -8,26 +8,30 @@ use native.Mathlib.Omega.{arith}
 use lib.Dec.{eqb, ltb}
 use lib.ListN.{length, take, drop, length-take, length-drop}
 use lib.Seq.{take_all, take-take}
-use Rattle.std.specs.Prelude.{Option}
+use Rattle.std.specs.Prelude.{Option, Some, None}
 use Rattle.std.specs.Option.{is_some}
 use Rattle.std.specs.List.{position, copy_within}
 use Rattle.protocol.specs.Widths.{kept}
 use Rattle.protocol.specs.Lines.{line_feed}
 use Rattle.protocol.specs.Run.{feed_at, kept_of}
 use Rattle.pieces.specs.Pieces.{between}
-use Rattle.pieces.proofs.Feeds.{first_there}
+use Rattle.pieces.proofs.Feeds.{first}
 
 -- ---- how many bytes
 
-module _ (left : List ℕ) {first : Option ℕ} (found : first ≡ position (λ b. eqb b line_feed) left) where
-  there : is_some first ≡ ltb (feed_at left) (length left)
-  there = ap is_some found ∙ first_there left
+module _ (left : List ℕ) {place : Option ℕ} (found : place ≡ position (λ b. eqb b line_feed) left) where
+  there : is_some place ≡ ltb (feed_at left) (length left)
+  there = rw (found, first left) (some (feed_at left) (ltb (feed_at left) (length left)))
+    where
+      some : (n : ℕ) (t : Bool) → is_some (cond t (Some n) None) ≡ t
+      some n true = refl
+      some n false = refl
 
-  pub kept_all : is_some first ≡ true → (length left ≡ length (kept_of left)) × (length left ≤ length left)
+  pub kept_all : is_some place ≡ true → (length left ≡ length (kept_of left)) × (length left ≤ length left)
   unfolding kept_of
   kept_all t = (rw (sym there ∙ t), omega arith)
 
-  pub kept_some : (n : ℕ) → is_some first ≡ false → n ≡ min (length left) kept → (n ≡ length (kept_of left)) × (n ≤ length left)
+  pub kept_some : (n : ℕ) → is_some place ≡ false → n ≡ min (length left) kept → (n ≡ length (kept_of left)) × (n ≤ length left)
   unfolding kept_of
   kept_some n t p = (rw (sym there ∙ t) (p ∙ rw length-take (omega arith)), omega arith)
 
@@ -47,15 +51,13 @@ kept_first left = go (ltb (feed_at left) (length left))
 
 -- ---- the move
 
--- n bytes from `start` on are copied to the buffer's start
-pub kept_moved : (old new : List ℕ) (from to end start n : ℕ) → end ≡ min to (length old) → start ≡ min from end
-    → n ≡ length (kept_of (take (end - start) (drop start old))) → n ≤ length (take (end - start) (drop start old)) → new ≡ copy_within old start (start + n) 0
-    → (n ≡ length (kept_of (between old from to))) × (new ≡ kept_of (between old from to) ++ drop n old)
-unfolding between
-kept_moved old new from to end start n p q k l moved =
-    let m : n ≤ min (end - start) (length old - start) = simp (length-take, length-drop) at l in
+-- n bytes from a place on are copied to the buffer's start
+pub kept_moved : (old : List ℕ) (start size n : ℕ) → n ≡ length (kept_of (take size (drop start old))) → n ≤ length (take size (drop start old))
+    → copy_within old start (start + n) 0 ≡ kept_of (take size (drop start old)) ++ drop n old
+kept_moved old start size n k l =
+    let m : n ≤ min size (length old - start) = simp (length-take, length-drop) at l in
     let many : start + n - start ≡ n = omega arith in
     let none : 0 + n ≡ n = omega arith in
-    let part : List ℕ = take (end - start) (drop start old) in
-    let first : take n (drop start old) ≡ kept_of part = sym (take-take n (end - start) (drop start old) (omega arith)) ∙ ap (λ (i : ℕ). take i part) k ∙ kept_first part in
-    rw (← p, ← q) (k, moved ∙ rw (many, none, first))
+    let part : List ℕ = take size (drop start old) in
+    let first : take n (drop start old) ≡ kept_of part = sym (take-take n size (drop start old) (omega arith)) ∙ ap (λ (i : ℕ). take i part) k ∙ kept_first part in
+    rw (many, none, first)

@@ -1,12 +1,16 @@
 -- The line that begins at a position, found by its line feed, and where it ends.
 -- Assumes nothing.
-use Prim.Native.Nat.{ℕ, suc, ◌+◌, ◌-◌, ◌^◌, ◌≤◌, ◌<◌}
+use Prim.Native.Nat.{ℕ, suc, min, ◌+◌, ◌-◌, ◌^◌, ◌≤◌, ◌<◌}
 use mathlib.Core.Path.{◌≡◌, sym, ◌∙◌}
 use mathlib.Core.List.{List, []}
+use native.Mathlib.Decide.{dec_lt}
 use native.Mathlib.Omega.{arith}
 use lib.ListN.{length, take, drop, length-take, length-drop, drop_of_length-le}
 use lib.Seq.{take_all}
+use Rattle.std.specs.Prelude.{Option, Some, None}
 use Rattle.protocol.specs.Run.{feed_at}
+use Rattle.pieces.specs.Pieces.{feed_from}
+use Rattle.pieces.proofs.Feeds.{feed_place, none_behind}
 use Rattle.trace.specs.Lines.{first_line, line_at}
 
 module _ (s : List ℕ) (at : ℕ) where
@@ -15,24 +19,28 @@ module _ (s : List ℕ) (at : ℕ) where
   unfolding line_at first_line feed_at
   past_end l = rw (drop_of_length-le s {i = at} l)
 
-  pub line_none : length s ≤ at → take (length s - length s) (drop (length s) s) ≡ line_at s at
-  line_none l =
-      let z : length s - length s ≡ 0 = omega arith in
-      rw z (sym (past_end l))
+  module _ {place : Option ℕ} (found : place ≡ feed_from s at) where
+    -- with its line feed
+    pub line_ended : {feed : ℕ} → place ≡ Some feed → take (feed + 1 - at) (drop at s) ≡ line_at s at
+    unfolding line_at first_line
+    line_ended {feed} p =
+        let z : feed + 1 - at ≡ suc (feed_at (drop at s)) = omega (arith, feed_place s at found p) in
+        rw z
 
-  -- with its line feed
-  pub line_ended : (feed : ℕ) → feed ≡ at + feed_at (drop at s) → take (feed + 1 - at) (drop at s) ≡ line_at s at
-  unfolding line_at first_line
-  line_ended feed e =
-      let z : feed + 1 - at ≡ suc (feed_at (drop at s)) = omega arith in
-      rw z
-
-  -- without one it is all that is left
-  pub line_last : (feed : ℕ) → feed ≡ at + feed_at (drop at s) → length s ≤ feed → take (length s - at) (drop at s) ≡ line_at s at
-  unfolding line_at first_line
-  line_last feed e l =
-      let z : length (drop at s) ≡ length s - at = length-drop at s in
-      take_all (length s - at) (drop at s) (omega arith) ∙ sym (take_all (suc (feed_at (drop at s))) (drop at s) (omega arith))
+    -- without one it is all that is left
+    pub line_last : place ≡ None → (from : ℕ) → from ≡ min at (length s) → take (length s - from) (drop from s) ≡ line_at s at
+    unfolding line_at first_line
+    line_last p from e = go (dec_lt (length s) at)
+      where
+        go : Dec (length s < at) → take (length s - from) (drop from s) ≡ take (suc (feed_at (drop at s))) (drop at s)
+        go (yes l) =
+            let z : length s - from ≡ 0 = omega arith in
+            let past : length s ≤ at = omega arith in
+            rw z (sym (past_end past))
+        go (no l) =
+            let here : from ≡ at = omega (arith, l) in
+            let all : length (drop at s) ≡ length s - at = length-drop at s in
+            rw here (take_all (length s - at) (drop at s) (omega arith)) ∙ sym (take_all (suc (feed_at (drop at s))) (drop at s) (omega (arith, none_behind s at found p)))
 
   line_short : length (line_at s at) ≤ length s - at
   unfolding line_at first_line

@@ -11,18 +11,14 @@ pub struct Trace<'a> {
 }
 
 // The line that begins at a position: with its line feed where it has one, and nothing at the text's end.
+#[tactic(auto, using(crate::proofs::Finding::line_ended, crate::proofs::Finding::line_last))]
 fn line_from(text: &[u8], at: usize) -> &[u8]
     ensures { result.now ≡ line_at text.now at }
 {
-    let len = text.len();
-    if len <= at {
-        return &text[len..];
+    match pieces::find_feed(text, at) {
+        Some(feed) => &text[at..feed + 1],
+        None => &text[at.min(text.len())..],
     }
-    let feed = pieces::find_feed(text, at);
-    if feed < len {
-        return &text[at..feed + 1];
-    }
-    &text[at..]
 }
 
 impl<'a> Trace<'a> {
