@@ -43,53 +43,57 @@ pub struct OldEngine {
 }
 
 // Each user's version and the system's, and the tables as they are.
-fn directory_of(old: OldDirectory) -> Directory
-    ensures { result ≡ carried_directory old }
-{
-    let OldDirectory {
-        roles,
-        readers,
-        forwards,
-        mandates,
-        versions: narrow,
-        version,
-    } = old;
-    let users = narrow.map(|v| Version::from(v));
-    let tables = Tables {
-        roles,
-        readers,
-        forwards,
-        mandates,
-    };
-    Directory {
-        tables,
-        versions: users,
-        version: Version::from(version),
+impl From<OldDirectory> for Directory {
+    ghost from_gives = { λ old new. new ≡ carried_directory old };
+
+    fn from(old: OldDirectory) -> Self {
+        let OldDirectory {
+            roles,
+            readers,
+            forwards,
+            mandates,
+            versions: narrow,
+            version,
+        } = old;
+        let users = narrow.map(|v| Version::from(v));
+        let tables = Tables {
+            roles,
+            readers,
+            forwards,
+            mandates,
+        };
+        Directory {
+            tables,
+            versions: users,
+            version: Version::from(version),
+        }
     }
 }
 
 // Each flow's version, and all else as it is.
-fn sessions_of(old: OldSessions) -> Sessions
-    ensures { result ≡ carried_sessions old }
-{
-    let OldSessions {
-        opened,
-        counts,
-        roots,
-        reaches,
-        versions: narrow,
-        denies,
-        rolesets,
-    } = old;
-    let flows = narrow.map(|v| Version::from(v));
-    Sessions {
-        opened,
-        counts,
-        roots,
-        reaches,
-        versions: flows,
-        denies,
-        rolesets,
+impl From<OldSessions> for Sessions {
+    ghost from_gives = { λ old new. new ≡ carried_sessions old };
+
+    fn from(old: OldSessions) -> Self {
+        let OldSessions {
+            opened,
+            counts,
+            roots,
+            reaches,
+            versions: narrow,
+            denies,
+            rolesets,
+        } = old;
+        let flows = narrow.map(|v| Version::from(v));
+        Sessions {
+            opened,
+            counts,
+            roots,
+            reaches,
+            versions: flows,
+            denies,
+            rolesets,
+        }
     }
 }
 
@@ -98,8 +102,8 @@ fn sessions_of(old: OldSessions) -> Sessions
 pub fn carry_over(old: OldEngine) -> Engine
     ensures { result ≡ carried_over old }
 {
-    let directory = directory_of(old.directory);
-    let sessions = sessions_of(old.sessions);
+    let directory = Directory::from(old.directory);
+    let sessions = Sessions::from(old.sessions);
     Engine {
         directory,
         sessions,
