@@ -18,6 +18,8 @@ pub use values::fresh;
 pub fn carry_out(engine: &mut Engine, call: Call) -> Answer
     ensures { done result engine.new ≡ step last_version engine.old call }
 {
+    // Kept: the parts are written out here and in `frames`. A function that handed them out of an engine
+    // would use the `&mut` to it while they are lent, and is refused.
     let mut parts = Parts {
         roles: &mut engine.directory.tables.roles,
         readers: &mut engine.directory.tables.readers,
@@ -37,6 +39,8 @@ pub fn carry_out(engine: &mut Engine, call: Call) -> Answer
 }
 
 // Any call on an engine by value.
+// Kept: each function below it is one call with the numbers of its frame. One function of them all would
+// take the `Call` itself, and that is this one.
 #[tactic(auto, unfolding(crate::specs::Changed::changed_by, model::specs::Calls::answer, model::specs::Calls::after))]
 fn taken(mut e: Engine, call: Call) -> Changed
     ensures { result ≡ changed_by e call }
@@ -157,6 +161,8 @@ pub fn show(e: Engine, product: Product, s: usize, f: usize) -> Shown
 }
 
 // 09 and 0e
+// Kept: the arrays one by one, since `Parts` holds mutable references, and of an engine by value nothing is
+// lent so.
 pub fn read(e: Engine, product: Product, u: usize, s: usize, f: usize, d: usize) -> Verdict
     ensures { result ≡ verdict e (Call.Read product u s f d) }
 {
