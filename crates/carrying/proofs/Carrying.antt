@@ -4,21 +4,14 @@ use Prim.Native.Nat.{ℕ}
 use mathlib.Core.Path.{◌≡◌, refl}
 use Rattle.model.specs.declared.calls.Product.{Product}
 use Rattle.model.specs.declared.calls.Call.TheVariants.{Read}
-use Rattle.model.specs.declared.calls.Verdict.{Verdict}
-use Rattle.model.specs.declared.calls.Verdict.TheVariants.{Granted, Refused}
-use Rattle.model.specs.Calls.{verdict_of, links, by_duty, read, answer_of, step, answer, verdict}
+use Rattle.model.specs.Calls.{links, by_duty, read, step, answer, verdict}
+use Rattle.model.proofs.Laws.{verdict_answer}
 use Rattle.carrying.specs.declared.OldEngine.{OldEngine}
 use Rattle.carrying.specs.Carrying.{carried_directory, carried_sessions, carried_over, old_read, Carried}
 
--- the verdict on a read as an answer, and back
-back : (v : Verdict) → verdict_of (answer_of v) ≡ v
-unfolding verdict_of answer_of
-back Granted = refl
-back (Refused why) = refl
-
 as_before : (old : OldEngine) (p : Product) (u s f d : ℕ) → verdict (carried_over old) (Read p u s f d) ≡ old_read old p u s f d
 unfolding verdict answer step read links by_duty carried_over carried_directory carried_sessions old_read
-as_before old p u s f d = back (old_read old p u s f d)
+as_before old p u s f d = verdict_answer (old_read old p u s f d)
 
 pub carried : (old : OldEngine) → Carried old
 unfolding carried_over carried_directory carried_sessions

@@ -12,8 +12,8 @@ use tables::Tables;
 pub type OldVersion = u16;
 
 // Who held and might read what, and since when. The tables have the rows that they have today.
-// Kept: the old structs stand by themselves, as whoever moves asked, so that no change of today's reaches
-// them.
+// Kept: the old structs stand by themselves and share nothing with today's, so that no change of those
+// reaches them: what is promised of carrying over speaks of the engine that there was.
 #[derive(Clone, Copy)]
 pub struct OldDirectory {
     pub roles: [u64; Engine::USERS],
@@ -43,53 +43,57 @@ pub struct OldEngine {
 }
 
 // Each user's version and the system's, and the tables as they are.
-fn directory_of(old: OldDirectory) -> Directory
-    ensures { result ≡ carried_directory old }
-{
-    let OldDirectory {
-        roles,
-        readers,
-        forwards,
-        mandates,
-        versions: narrow,
-        version,
-    } = old;
-    let users = narrow.map(|v| Version::from(v));
-    let tables = Tables {
-        roles,
-        readers,
-        forwards,
-        mandates,
-    };
-    Directory {
-        tables,
-        versions: users,
-        version: Version::from(version),
+impl From<OldDirectory> for Directory {
+    ghost from_gives = { λ old new. new ≡ carried_directory old };
+
+    fn from(old: OldDirectory) -> Self {
+        let OldDirectory {
+            roles,
+            readers,
+            forwards,
+            mandates,
+            versions: narrow,
+            version,
+        } = old;
+        let users = narrow.map(|v| Version::from(v));
+        let tables = Tables {
+            roles,
+            readers,
+            forwards,
+            mandates,
+        };
+        Directory {
+            tables,
+            versions: users,
+            version: Version::from(version),
+        }
     }
 }
 
 // Each flow's version, and all else as it is.
-fn sessions_of(old: OldSessions) -> Sessions
-    ensures { result ≡ carried_sessions old }
-{
-    let OldSessions {
-        opened,
-        counts,
-        roots,
-        reaches,
-        versions: narrow,
-        denies,
-        rolesets,
-    } = old;
-    let flows = narrow.map(|v| Version::from(v));
-    Sessions {
-        opened,
-        counts,
-        roots,
-        reaches,
-        versions: flows,
-        denies,
-        rolesets,
+impl From<OldSessions> for Sessions {
+    ghost from_gives = { λ old new. new ≡ carried_sessions old };
+
+    fn from(old: OldSessions) -> Self {
+        let OldSessions {
+            opened,
+            counts,
+            roots,
+            reaches,
+            versions: narrow,
+            denies,
+            rolesets,
+        } = old;
+        let flows = narrow.map(|v| Version::from(v));
+        Sessions {
+            opened,
+            counts,
+            roots,
+            reaches,
+            versions: flows,
+            denies,
+            rolesets,
+        }
     }
 }
 
@@ -98,8 +102,8 @@ fn sessions_of(old: OldSessions) -> Sessions
 pub fn carry_over(old: OldEngine) -> Engine
     ensures { result ≡ carried_over old }
 {
-    let directory = directory_of(old.directory);
-    let sessions = sessions_of(old.sessions);
+    let directory = Directory::from(old.directory);
+    let sessions = Sessions::from(old.sessions);
     Engine {
         directory,
         sessions,

@@ -4,7 +4,8 @@
 
 ghost use Rattle.std.specs.Prelude.{◌≡◌};
 ghost use Rattle.model.specs.Limits.{last_version};
-ghost use Rattle.model.specs.Calls.{done, step, answer, after, verdict, shown_by};
+ghost use Rattle.model.specs.Calls.{done, step, answer, verdict, shown_by};
+ghost use Rattle.engine.specs.Changed.{changed_by};
 
 pub use model::{
     Answer, Ask, Call, Change, Changed, Constraint, Directory, Engine, Product, Refusal, Sessions,
@@ -17,6 +18,8 @@ pub use values::fresh;
 pub fn carry_out(engine: &mut Engine, call: Call) -> Answer
     ensures { done result engine.new ≡ step last_version engine.old call }
 {
+    // Kept: the parts are written out here and in `frames`. A function that handed them out of an engine
+    // would use the `&mut` to it while they are lent, and is refused.
     let mut parts = Parts {
         roles: &mut engine.directory.tables.roles,
         readers: &mut engine.directory.tables.readers,
@@ -36,8 +39,11 @@ pub fn carry_out(engine: &mut Engine, call: Call) -> Answer
 }
 
 // Any call on an engine by value.
+// Kept: each function below it is one call with the numbers of its frame. One function of them all would
+// take the `Call` itself, and that is this one.
+#[tactic(auto, unfolding(crate::specs::Changed::changed_by, model::specs::Calls::answer, model::specs::Calls::after))]
 fn taken(mut e: Engine, call: Call) -> Changed
-    ensures { (result.answer ≡ answer e call) × (result.engine ≡ after e call) }
+    ensures { result ≡ changed_by e call }
 {
     let answer = carry_out(&mut e, call);
     Changed { answer, engine: e }
@@ -45,21 +51,21 @@ fn taken(mut e: Engine, call: Call) -> Changed
 
 // 01
 pub fn assign(e: Engine, u: usize, r: usize) -> Changed
-    ensures { (result.answer ≡ answer e (Call.Table (Change.Assign u r))) × (result.engine ≡ after e (Call.Table (Change.Assign u r))) }
+    ensures { result ≡ changed_by e (Call.Table (Change.Assign u r)) }
 {
     taken(e, Call::Table(Change::Assign { user: u, role: r }))
 }
 
 // 02
 pub fn withdraw(e: Engine, u: usize, r: usize) -> Changed
-    ensures { (result.answer ≡ answer e (Call.Table (Change.Withdraw u r))) × (result.engine ≡ after e (Call.Table (Change.Withdraw u r))) }
+    ensures { result ≡ changed_by e (Call.Table (Change.Withdraw u r)) }
 {
     taken(e, Call::Table(Change::Withdraw { user: u, role: r }))
 }
 
 // 03
 pub fn permit(e: Engine, r: usize, d: usize) -> Changed
-    ensures { (result.answer ≡ answer e (Call.Table (Change.Permit r d))) × (result.engine ≡ after e (Call.Table (Change.Permit r d))) }
+    ensures { result ≡ changed_by e (Call.Table (Change.Permit r d)) }
 {
     taken(
         e,
@@ -72,7 +78,7 @@ pub fn permit(e: Engine, r: usize, d: usize) -> Changed
 
 // 04
 pub fn revoke(e: Engine, r: usize, d: usize) -> Changed
-    ensures { (result.answer ≡ answer e (Call.Table (Change.Revoke r d))) × (result.engine ≡ after e (Call.Table (Change.Revoke r d))) }
+    ensures { result ≡ changed_by e (Call.Table (Change.Revoke r d)) }
 {
     taken(
         e,
@@ -85,14 +91,14 @@ pub fn revoke(e: Engine, r: usize, d: usize) -> Changed
 
 // 05
 pub fn forward(e: Engine, from: usize, to: usize) -> Changed
-    ensures { (result.answer ≡ answer e (Call.Table (Change.Forward from to))) × (result.engine ≡ after e (Call.Table (Change.Forward from to))) }
+    ensures { result ≡ changed_by e (Call.Table (Change.Forward from to)) }
 {
     taken(e, Call::Table(Change::Forward { from, to }))
 }
 
 // 10
 pub fn mandate(e: Engine, r: usize, d: usize) -> Changed
-    ensures { (result.answer ≡ answer e (Call.Table (Change.Mandate r d))) × (result.engine ≡ after e (Call.Table (Change.Mandate r d))) }
+    ensures { result ≡ changed_by e (Call.Table (Change.Mandate r d)) }
 {
     taken(
         e,
@@ -105,7 +111,7 @@ pub fn mandate(e: Engine, r: usize, d: usize) -> Changed
 
 // 06 and 0b
 pub fn open_session(e: Engine, product: Product, s: usize) -> Changed
-    ensures { (result.answer ≡ answer e (Call.Session product s Ask.Open)) × (result.engine ≡ after e (Call.Session product s Ask.Open)) }
+    ensures { result ≡ changed_by e (Call.Session product s Ask.Open) }
 {
     taken(
         e,
@@ -118,26 +124,23 @@ pub fn open_session(e: Engine, product: Product, s: usize) -> Changed
 }
 
 // 07 and 0c
-pub fn conflicting(e: Engine, product: Product, s: usize, root: usize) -> Answer
+#[tactic(auto, unfolding(model::specs::Calls::answer))]
+pub fn conflicting(mut e: Engine, product: Product, s: usize, root: usize) -> Answer
     ensures { result ≡ answer e (Call.Session product s (Ask.Conflicting root)) }
 {
-    let tables = &e.directory.tables;
-    let kept = &e.sessions;
-    sessions::conflicting(
-        &tables.roles,
-        &tables.readers,
-        &tables.forwards,
-        kept.opened,
-        &kept.counts,
-        &kept.reaches,
-        session_at(product, s),
-        root,
+    carry_out(
+        &mut e,
+        Call::Session {
+            product,
+            session: s,
+            ask: Ask::Conflicting { root },
+        },
     )
 }
 
 // 08 and 0d
 pub fn add_flow(e: Engine, product: Product, s: usize, root: usize, chosen: u64) -> Changed
-    ensures { (result.answer ≡ answer e (Call.Session product s (Ask.Add root chosen))) × (result.engine ≡ after e (Call.Session product s (Ask.Add root chosen))) }
+    ensures { result ≡ changed_by e (Call.Session product s (Ask.Add root chosen)) }
 {
     taken(
         e,
@@ -150,6 +153,7 @@ pub fn add_flow(e: Engine, product: Product, s: usize, root: usize, chosen: u64)
 }
 
 // 0a and 0f
+#[tactic(auto, unfolding(model::specs::Calls::shown_by))]
 pub fn show(e: Engine, product: Product, s: usize, f: usize) -> Shown
     ensures { result ≡ shown_by e product s f }
 {
@@ -157,6 +161,8 @@ pub fn show(e: Engine, product: Product, s: usize, f: usize) -> Shown
 }
 
 // 09 and 0e
+// Kept: the arrays one by one, since `Parts` holds mutable references, and of an engine by value nothing is
+// lent so.
 pub fn read(e: Engine, product: Product, u: usize, s: usize, f: usize, d: usize) -> Verdict
     ensures { result ≡ verdict e (Call.Read product u s f d) }
 {

@@ -7,21 +7,15 @@ use mathlib.Core.Logic.{⊎_elim}
 use native.Mathlib.Nat.{zero-add, eq-or-lt_of_le}
 use native.Mathlib.Omega.{arith}
 use denote.Param.Members.{Mut}
-use lib.ListN.{length, get_or, replicate}
+use lib.ListN.{get_or, replicate}
 use Rattle.std.specs.Fn.{Called}
 use Rattle.std.specs.Array.{IsFromFnResultFrom, IsFromFnResult, MapsFrom, IsMapOf}
-use Rattle.std.proofs.lemmas.List.{ext_get_or}
 use Rattle.model.specs.Limits.{flow_count}
-use Rattle.model.proofs.Laws.{get_d_filled, length_filled}
+use Rattle.model.proofs.Laws.{get_d_filled, by_elements}
 use Rattle.graph.specs.Graph.{by_flow}
 
 pub flow_at : (p : ℕ → ℕ) (g : ℕ) → g < flow_count → get_or (by_flow p) g 0 ≡ p g
 flow_at p g l = rw (zero-add g) at (get_d_filled 0 p flow_count (replicate flow_count 0) g (omega arith) l)
-
-flows_made : (p : ℕ → ℕ) (xs : List ℕ) → length xs ≡ flow_count → ((g : ℕ) → g < flow_count → get_or xs g 0 ≡ p g) → xs ≡ by_flow p
-flows_made p xs e f =
-    let l : length xs ≡ length (by_flow p) = e ∙ sym (length_filled 0 p flow_count (replicate flow_count 0)) in
-    ext_get_or 0 _ _ l (λ g k. let h : g < flow_count = omega arith in f g h ∙ sym (flow_at p g h))
 
 -- made by a closure that changes nothing it captures: number j is what it gives for j
 made_at : {F : Type 0} (call : Mut F (ℕ × Unit {0}) ℕ) (f : F) (p : ℕ → ℕ) (ys : List ℕ) → ((x b : ℕ) (q : F) → Called call f (x, tt) b q → (q ≡ f) × (b ≡ p x))
@@ -43,8 +37,8 @@ mapped_at call f p xs ys gives (suc n) i t j l k =
 
 pub flows_from_fn : {F : Type 0} (call : Mut F (ℕ × Unit {0}) ℕ) (f : F) (p : ℕ → ℕ) (ys : List ℕ) → IsFromFnResult call f ys flow_count
     → ((x b : ℕ) (q : F) → Called call f (x, tt) b q → (q ≡ f) × (b ≡ p x)) → ys ≡ by_flow p
-flows_from_fn call f p ys r gives = flows_made p ys r.long (λ g k. made_at call f p ys gives flow_count 0 r.each g (omega arith) (omega arith))
+flows_from_fn call f p ys r gives = by_elements p flow_count ys _ r.long (omega arith) (λ g k. made_at call f p ys gives flow_count 0 r.each g (omega arith) (omega arith))
 
 pub flows_mapped : {F : Type 0} (call : Mut F (ℕ × Unit {0}) ℕ) (f : F) (p : ℕ → ℕ) (xs ys : List ℕ) → IsMapOf call f xs ys flow_count
     → ((x b : ℕ) (q : F) → Called call f (x, tt) b q → (q ≡ f) × (b ≡ p x)) → ys ≡ by_flow (λ g. p (get_or xs g 0))
-flows_mapped call f p xs ys r gives = flows_made (λ g. p (get_or xs g 0)) ys r.long (λ g k. mapped_at call f p xs ys gives flow_count 0 r.each g (omega arith) (omega arith))
+flows_mapped call f p xs ys r gives = by_elements (λ g. p (get_or xs g 0)) flow_count ys _ r.long (omega arith) (λ g k. mapped_at call f p xs ys gives flow_count 0 r.each g (omega arith) (omega arith))

@@ -32,6 +32,9 @@ pub fn roles(readers: &[u64; Engine::DATABASES], databases: u64) -> u64
 
 // The databases of flow g of session s, which has n flows, with a new one counted in as the next one:
 // older flows keep those of their addition. None where there is no such flow.
+// Kept: a session and a flow within their limits are asked of the caller, here and where else a place is
+// worked out. A public function for the place would have to answer for any numbers, and each caller has
+// tested them in rows of the refusal table.
 #[tactic(auto, unfolding(model::specs::State::reach_with, model::specs::State::place))]
 fn databases_with(reaches: &[u64; Engine::PLACES], s: usize, n: usize, new: u64, g: usize) -> u64
     requires s_lt_all_sessions { s < all_sessions }

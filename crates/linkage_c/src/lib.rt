@@ -4,6 +4,9 @@
 // answer's values where the caller wants them; where the call is refused these stay as they were.
 //
 // Every function answers for any contents of the arrays and any numbers.
+//
+// Kept: numbers for refusals, products and sessions, and arrays one by one. A caller in C has no other names
+// for them, and lends each function the arrays that it needs.
 #![tactic(auto)]
 
 mod asks;

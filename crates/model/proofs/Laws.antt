@@ -5,21 +5,24 @@ use mathlib.Core.Path.{◌≡◌, refl, sym, ap, ap₂, ◌∙◌}
 use mathlib.Core.Bool.{Bool, true, false, cond, ◌&&◌, ◌||◌, false≢true}
 use mathlib.Core.List.{List, [], ◌∷◌, ◌++◌}
 use mathlib.Core.Logic.{◌⊎◌, inl, inr, ⊎_elim}
-use native.Mathlib.Nat.{eq-or-lt_of_le}
+use native.Mathlib.Nat.{zero-add, eq-or-lt_of_le}
 use native.Mathlib.Numerals.{add-one}
 use native.Mathlib.Decide.{dec_lt}
 use native.Mathlib.Omega.{arith}
 use lib.Dec.{leb, ltb, eqb}
 use lib.ListN.{length, get_or, set, replicate, length-append, length-set, get_or-append, get_or-eq_default}
-use lib.Seq.{get_or_at, get_or-set_same, get_or-set_other}
+use lib.Seq.{ext_get_or, get_or_at, get_or-set_same, get_or-set_other}
 use borrow.Author.Tests.{ltb-true, ltb-false, lt-ltb, le-ltb, lt-leb, le-leb, eqb-true, eqb-false, eq-eqb, ne_eqb}
 use Rattle.sets.specs.Sets.{some}
 use Rattle.sets.proofs.Laws.{true_or_false, or_none, some_none, some_suc}
 use Rattle.model.specs.declared.calls.Product.{Product}
 use Rattle.model.specs.declared.calls.Product.TheVariants.{Server, TermBank}
+use Rattle.model.specs.declared.calls.Verdict.{Verdict}
+use Rattle.model.specs.declared.calls.Verdict.TheVariants.{Granted, Refused}
 use Rattle.model.specs.Limits.{session_count, flow_count}
 use Rattle.model.specs.State.{all_sessions, first_of, session_at, place_count, role_set_count}
 use Rattle.model.specs.State.{filled, place, set_place, roleset_at, given}
+use Rattle.model.specs.Calls.{verdict_of, answer_of}
 use Rattle.model.specs.Ledger.{same}
 use Rattle.model.specs.Demands.{list_of}
 
@@ -106,6 +109,14 @@ module _ (at : ℕ) (p : ℕ → ℕ) where
   unfolding filled
   get_d_filled_other zero l j f = refl
   get_d_filled_other (suc n) l j f = get_or-set_other (filled at p n l) (at + n) j (p n) 0 (f n (omega arith)) ∙ get_d_filled_other n l j (λ i k. f i (omega arith))
+
+-- a list is known by its elements
+pub by_elements : (p : ℕ → ℕ) (n : ℕ) (new l : List ℕ) → length new ≡ n → length l ≡ n → ((i : ℕ) → i < n → get_or new i 0 ≡ p i) → new ≡ filled 0 p n l
+by_elements p n new l e f h =
+    ext_get_or 0 new (filled 0 p n l) (e ∙ sym f ∙ sym (length_filled 0 p n l)) (λ i k.
+    let m : i < n = omega (arith, e) in
+    let here : get_or (filled 0 p n l) i 0 ≡ p i = rw zero-add at (get_d_filled 0 p n l i (omega (arith, f)) m) in
+    h i m ∙ sym here)
 
 -- ---- versions that are given to those who are named
 
@@ -305,3 +316,10 @@ module _ (rolesets : List ℕ) (s n : ℕ) (p : ℕ → ℕ) where
   pub roleset_stays : (t f g : ℕ) → g < flow_count → (place t f ≡ place s n → ⊥) → roleset_at (filled (set_place s n 0) p flow_count rolesets) t f g ≡ roleset_at rolesets t f g
   unfolding roleset_at
   roleset_stays t f g k d = get_d_filled_other (set_place s n 0) p flow_count rolesets (set_place t f g) (λ i m e. set_places t f g s n i k m d (e ∙ set_from s n i))
+
+-- ---- the verdict on a read, as an answer
+
+pub verdict_answer : (v : Verdict) → verdict_of (answer_of v) ≡ v
+unfolding verdict_of answer_of
+verdict_answer Granted = refl
+verdict_answer (Refused why) = refl

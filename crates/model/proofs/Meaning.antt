@@ -36,11 +36,11 @@ use Rattle.model.specs.declared.calls.Verdict.TheVariants.{Granted, Refused}
 use Rattle.model.specs.Limits.{session_count, flow_count}
 use Rattle.model.specs.State.{all_sessions, session_at, place_count}
 use Rattle.model.specs.State.{fresh, engine_of, filled, place, reach_with, conflicts, outside, deny_before, parents_among, role_set, linkable, roleset_at, new_version}
-use Rattle.model.specs.Calls.{number_of, returned, verdict_of, with_tables, to_holders, bar, conflicts_in, with_flow, show, links, by_duty, read, answer_of, ask, step, answer, verdict, after, constraint_at, shown_at, shown_by}
+use Rattle.model.specs.Calls.{number_of, returned, verdict_of, with_tables, to_holders, bar, conflicts_in, with_flow, show, links, by_duty, read, ask, step, answer, verdict, after, constraint_at, shown_at, shown_by}
 use Rattle.model.specs.Demands.{engine_after, engine_at}
 use Rattle.model.specs.Meaning.{One, Meets, NumbersMean, flows_of, reach_of, version_of, deny_of, roles_of, held_of, user_version, ReadsTwo, Links, SetsMean, counted_in, QueryMeans}
 use Rattle.model.specs.Meaning.{Renewed, RenewedHolders, Changes, SameFlow, Opened, Added, Means, ValueMeans, Checked, UnderMandate, ReadMeans, ShowMeans, FreshMeans}
-use Rattle.model.proofs.Laws.{get_d_same, get_d_filled, get_d_given, session_within, session_above, session_limit, session_one, places, place_lt, roleset_put, roleset_stays}
+use Rattle.model.proofs.Laws.{get_d_same, get_d_filled, get_d_given, session_within, session_above, session_limit, session_one, places, place_lt, roleset_put, roleset_stays, verdict_answer}
 use Rattle.model.proofs.Invariants.{Sized}
 use Rattle.model.proofs.Chains.{refused_answer}
 use Rattle.model.proofs.Granted.{changed_tables, given_by, changed_directory, session_opened, changed_sessions, ask_answer, changed, accepted}
@@ -417,15 +417,10 @@ last_rows_are false false false = (
   (λ h. inr (refl, refl), λ h. refl),
 )
 
-verdict_read : (v : Verdict) → verdict_of (answer_of v) ≡ v
-unfolding verdict_of answer_of
-verdict_read Granted = refl
-verdict_read (Refused why) = refl
-
 module _ (e : Engine) (p : Product) (u s f d : ℕ) where
   is_read : verdict e (Read p u s f d) ≡ read e.directory e.sessions u (session_at p s) f d
   unfolding verdict answer step
-  is_read = verdict_read (read e.directory e.sessions u (session_at p s) f d)
+  is_read = verdict_answer (read e.directory e.sessions u (session_at p s) f d)
 
   changed_test : Bool
   changed_test = ltb (version_of e (session_at p s) f) (user_version e u)

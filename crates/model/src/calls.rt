@@ -67,7 +67,7 @@ pub enum Refusal {
     Mandated = 15,
 }
 
-// The answer to a read.
+// The answer to a read. Kept: an enum and no `Result`, since document 01 names the enum of a read.
 #[derive(Clone, Copy, PartialEq, Eq, Debug)]
 pub enum Verdict {
     Granted,

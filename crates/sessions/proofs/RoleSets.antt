@@ -1,22 +1,14 @@
--- A list of role sets is known by its elements.
+-- The role sets of a constraint, as a part of those of all.
 -- Assumes nothing.
-use Prim.Native.Nat.{ℕ, ◌+◌, ◌≤◌, ◌<◌}
+use Prim.Native.Nat.{ℕ, ◌+◌, ◌≤◌}
 use mathlib.Core.Path.{◌≡◌, sym, ◌∙◌}
 use mathlib.Core.List.{List}
-use native.Mathlib.Nat.{zero-add}
 use native.Mathlib.Omega.{arith}
 use lib.ListN.{length, get_or, take, drop, replicate, get_or-eq_default}
-use lib.Seq.{ext_get_or, get_or-take, get_or-drop}
+use lib.Seq.{get_or-take, get_or-drop}
 use Rattle.model.specs.Limits.{flow_count}
 use Rattle.model.specs.State.{filled}
-use Rattle.model.proofs.Laws.{length_filled, get_d_filled, get_d_same}
-
-by_elements : (p : ℕ → ℕ) (n : ℕ) (new l : List ℕ) → length new ≡ n → length l ≡ n → ((i : ℕ) → i < n → get_or new i 0 ≡ p i) → new ≡ filled 0 p n l
-by_elements p n new l e f h =
-    ext_get_or 0 new (filled 0 p n l) (e ∙ sym f ∙ sym (length_filled 0 p n l)) (λ i k.
-    let m : i < n = omega (arith, e) in
-    let here : get_or (filled 0 p n l) i 0 ≡ p i = rw zero-add at (get_d_filled 0 p n l i (omega (arith, f)) m) in
-    h i m ∙ sym here)
+use Rattle.model.proofs.Laws.{get_d_same, by_elements}
 
 -- those from a place on, and none where there is no such place
 pub part : (sets new l : List ℕ) (from k : ℕ) → length new ≡ flow_count → length l ≡ flow_count → k ≡ flow_count → new ≡ take k (drop from sets) → new ≡ filled 0 (λ g. get_or sets (from + g) 0) flow_count l

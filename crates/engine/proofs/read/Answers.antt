@@ -1,6 +1,6 @@
 use mathlib.Core.Path.{sym, ◌∙◌}
 use Rattle.model.specs.Calls.{step, answer, verdict}
-use Rattle.engine.proofs.Answers.{verdict_answer}
+use Rattle.model.proofs.Laws.{verdict_answer}
 use Rattle.engine.proofs.read.Goals as goal
 
 pub returns : goal.returns

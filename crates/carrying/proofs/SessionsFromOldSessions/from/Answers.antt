@@ -3,7 +3,7 @@ use native.Mathlib.Omega.{arith}
 use Rattle.std.proofs.Common.{rules, tests}
 use Rattle.carrying.specs.Carrying.{carried_sessions}
 use Rattle.carrying.proofs.Widening.{same_numbers}
-use Rattle.carrying.proofs.sessions_of.Goals as goal
+use Rattle.carrying.proofs.SessionsFromOldSessions.from.Goals as goal
 
 pub returns : goal.returns
 unfolding carried_sessions
