@@ -60,13 +60,13 @@ unfolding line_of values answer_of verdict_of shown_in
 number_line S Verdict-as-Granted = refl
 number_line S (Verdict-as-Refused why) = refl
 
-read_line : (e : Engine) (c : Call) (p : Product) (u s t f d n : ℕ) → c ≡ Read p u s f d → t ≡ session_at p s → n ≡ returned (read e.directory e.sessions u t f d) → hex field_digits n ++ (line_feed ∷ []) ≡ reply e c
+read_line : (e : Engine) (c : Call) (p : Product) (u s f d n : ℕ) → c ≡ Read p u s f d → n ≡ returned (read e.directory e.sessions u (session_at p s) f d) → hex field_digits n ++ (line_feed ∷ []) ≡ reply e c
 unfolding reply answer step
-read_line e c p u s t f d n q i h = rw (q, h, i) (number_line e.sessions (read e.directory e.sessions u (session_at p s) f d))
+read_line e c p u s f d n q h = rw (q, h) (number_line e.sessions (read e.directory e.sessions u (session_at p s) f d))
 
-pub read_wrote : (e : Engine) (c : Call) (p : Product) (u s t f d n : ℕ) → c ≡ Read p u s f d → t ≡ session_at p s → n ≡ returned (read e.directory e.sessions u t f d) → {old new : List ℕ} {at next : ℕ} → at + longest ≤ length old
+pub read_wrote : (e : Engine) (c : Call) (p : Product) (u s f d n : ℕ) → c ≡ Read p u s f d → n ≡ returned (read e.directory e.sessions u (session_at p s) f d) → {old new : List ℕ} {at next : ℕ} → at + longest ≤ length old
     → Puts (room_at old at) old new at next (hex field_digits n ++ (line_feed ∷ [])) → Wrote old new at next (reply e c)
-read_wrote e c p u s t f d n q i h {old} {new} {at} l = put_reply e c l (has_room old at l) (read_line e c p u s t f d n q i h)
+read_wrote e c p u s f d n q h {old} {new} {at} l = put_reply e c l (has_room old at l) (read_line e c p u s f d n q h)
 
 pub read_after : (e : Engine) (c : Call) (p : Product) (u s f d : ℕ) → c ≡ Read p u s f d → e ≡ after e c
 unfolding after step

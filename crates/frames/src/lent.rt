@@ -37,23 +37,7 @@ fn answer_call(parts: &mut Parts<'_>, call: Call, out: &mut [u8], at: usize) -> 
         database,
     } = call
     {
-        let s = step::session_at(product, session);
-        let n = reading::number(
-            parts.roles,
-            parts.readers,
-            parts.mandates,
-            parts.users,
-            *parts.opened,
-            parts.counts,
-            parts.reaches,
-            parts.versions,
-            parts.denies,
-            parts.rolesets,
-            user,
-            s,
-            flow,
-            database,
-        );
+        let n = parts.number(product, user, session, flow, database);
         return encoding::write_number(n, out, at);
     }
     let answer = step::step(parts, call);

@@ -4,7 +4,8 @@
 
 ghost use Rattle.std.specs.Prelude.{◌≡◌};
 ghost use Rattle.model.specs.Limits.{last_version};
-ghost use Rattle.model.specs.Calls.{done, step};
+ghost use Rattle.model.specs.State.{session_at};
+ghost use Rattle.model.specs.Calls.{returned, read, done, step};
 ghost use Rattle.step.specs.Parts.{lent, Same};
 
 use model::{Answer, Ask, Call, Change, Engine, Product, Refusal, Version};
@@ -26,6 +27,38 @@ pub struct Parts<'a> {
     pub versions: &'a mut [Version; Engine::PLACES],
     pub denies: &'a mut [u64; Engine::PLACES],
     pub rolesets: &'a mut [u64; Engine::ROLE_SETS],
+}
+
+impl Parts<'_> {
+    // 09 and 0e: the number of a read's verdict, 0 where it is granted.
+    pub fn number(
+        &self,
+        product: Product,
+        user: usize,
+        session: usize,
+        flow: usize,
+        database: usize,
+    ) -> u64
+        ensures { result ≡ returned (read (lent self.now).directory (lent self.now).sessions user (session_at product session) flow database) }
+    {
+        let s = session_at(product, session);
+        reading::number(
+            self.roles,
+            self.readers,
+            self.mandates,
+            self.users,
+            *self.opened,
+            self.counts,
+            self.reaches,
+            self.versions,
+            self.denies,
+            self.rolesets,
+            user,
+            s,
+            flow,
+            database,
+        )
+    }
 }
 
 // Any change of the tables.
@@ -111,7 +144,7 @@ fn ask(parts: &mut Parts<'_>, product: Product, session: usize, asked: Ask) -> A
 }
 
 // One call: checked, carried out and answered.
-#[tactic(auto, unfolding(model::specs::Calls::step, model::specs::Calls::answer_of))]
+#[tactic(auto, using(verdict::proofs::Laws::back), unfolding(model::specs::Calls::step, model::specs::Calls::answer_of))]
 pub fn step(parts: &mut Parts<'_>, call: Call) -> Answer
     ensures value { done result (lent parts.new) ≡ step last_version (lent parts.old) call }
     ensures same { Same parts.new parts.old }
@@ -130,23 +163,8 @@ pub fn step(parts: &mut Parts<'_>, call: Call) -> Answer
             flow,
             database,
         } => {
-            let s = session_at(product, session);
-            Answer::from(reading::read(
-                parts.roles,
-                parts.readers,
-                parts.mandates,
-                parts.users,
-                *parts.opened,
-                parts.counts,
-                parts.reaches,
-                parts.versions,
-                parts.denies,
-                parts.rolesets,
-                user,
-                s,
-                flow,
-                database,
-            ))
+            let number = parts.number(product, user, session, flow, database);
+            Answer::from(verdict::verdict_by(number))
         }
         Call::Unreadable => Answer::Refused(Refusal::Malformed),
     }

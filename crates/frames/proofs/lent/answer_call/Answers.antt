@@ -4,7 +4,7 @@ use Rattle.frames.proofs.Answering.{read_wrote, told_wrote}
 use Rattle.frames.proofs.lent.answer_call.Goals as goal
 
 pub returns-in-Read-clause-line : goal.returns-in-Read-clause-line
-returns-in-Read-clause-line c = read_wrote _ _ _ _ _ _ _ _ _ c.in-Read.is c.session_at-s.ensures (c.number-n.ensures _ _ _) c.requires c.write_number.ensures
+returns-in-Read-clause-line c = read_wrote _ _ _ _ _ _ _ _ c.in-Read.is c.number-n.ensures c.requires c.write_number.ensures
 
 pub returns-clause-engine : goal.returns-clause-engine
 returns-clause-engine c = told_after _ _ _ _ c.step-answer.ensures.value
