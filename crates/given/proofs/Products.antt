@@ -1,15 +1,13 @@
 -- What the products' numbers mean.
 -- Assumes nothing.
-use Prim.Native.Nat.{ℕ, ◌≤◌, ◌<◌}
+use Prim.Native.Nat.{ℕ, ◌≤◌}
 use mathlib.Core.Path.{◌≡◌, refl}
 use mathlib.Core.Bool.{Bool, true, false}
 use lib.Dec.{leb}
-use native.Mathlib.Omega.{arith}
-use borrow.Author.Tests.{eq-eqb, ne_eqb, lt-ltb, le-ltb}
+use borrow.Author.Tests.{le-ltb}
 use Rattle.tables.specs.Tables.{user_count, database_count}
 use Rattle.model.specs.declared.Engine.{Engine}
 use Rattle.model.specs.declared.calls.Product.{Product}
-use Rattle.model.specs.declared.calls.Product.TheVariants.{Server, TermBank}
 use Rattle.model.specs.declared.calls.Ask.{Ask}
 use Rattle.model.specs.declared.calls.Ask.TheVariants.{Open, Conflicting, Add, Show}
 use Rattle.model.specs.declared.calls.Call.TheVariants.{Session, Read}
@@ -18,19 +16,7 @@ use Rattle.model.specs.State.{product_count, session_at}
 use Rattle.model.specs.Calls.{number_of, returned, verdict_of, answer_of, open_session, conflicting, add, show, read, ask, step, answer, verdict}
 use Rattle.given.specs.Given.{product_of, session_of, ProductsMean}
 
-pub server_of : (p : ℕ) → p ≡ 0 → Server ≡ product_of p
-unfolding product_of
-server_of p e = rw (eq-eqb p 0 e)
-
-pub bank_of : (p : ℕ) → 0 < p → TermBank ≡ product_of p
-unfolding product_of
-bank_of p l = rw (ne_eqb p 0 (λ e. absurd (omega (arith, e, l))))
-
-pub one_such : (p s : ℕ) → p < product_count → s ≡ session_of p s
-unfolding session_of
-one_such p s l = rw (lt-ltb p product_count l)
-
-pub none_such : (p s : ℕ) → product_count ≤ p → session_count ≡ session_of p s
+none_such : (p s : ℕ) → product_count ≤ p → session_count ≡ session_of p s
 unfolding session_of
 none_such p s l = rw (le-ltb p product_count l)
 

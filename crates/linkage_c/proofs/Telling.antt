@@ -21,6 +21,7 @@ use Rattle.model.specs.declared.calls.Call.TheVariants.{Table, Session, Read}
 use Rattle.model.specs.declared.calls.Verdict.{Verdict}
 use Rattle.model.specs.declared.calls.Verdict.TheVariants.{Granted as Verdict-as-Granted, Refused as Verdict-as-Refused}
 use Rattle.model.specs.declared.calls.Answer.{Answer}
+use Rattle.model.specs.declared.calls.Answer.TheVariants.{Version, Roles, Flow, Granted, Constraint as Answer-as-Constraint, Refused}
 use Rattle.model.specs.Limits.{flow_count, last_version}
 use Rattle.model.specs.State.{all_sessions, session_at, engine_of, place, set_place, roleset_at, filled}
 use Rattle.model.specs.Calls.{done, returned, verdict_of, answer_of, change, ask, read, step, answer, verdict, constraint_at}
@@ -56,6 +57,25 @@ module _ (e e' : Engine) (c : Call) (a : Answer) (n : ℕ) (h : done a e' ≡ st
   adds flow size told flow' size' told' f z v =
       let t = told_answer e e' c a h in
       record { number = by_number; added = f ∙ ap (flow_or flow) t; reached = z ∙ ap (size_or size) t; version = v ∙ ap (version_or told) t; engine = told_after e e' c a h }
+
+-- an answer that tells no roles, or no flow
+pub no_roles : (old : ℕ) (a : Answer) → ((m : ℕ) → a ≡ Roles m → ⊥) → old ≡ roles_or old a
+unfolding roles_or
+no_roles old (Version v) h = refl
+no_roles old (Roles m) h = absurd (h m refl)
+no_roles old (Flow n k v) h = refl
+no_roles old Granted h = refl
+no_roles old (Answer-as-Constraint s f) h = refl
+no_roles old (Refused why) h = refl
+
+pub no_flow : (flow size : ℕ) (a : Answer) → ((n k v : ℕ) → a ≡ Flow n k v → ⊥) → (flow ≡ flow_or flow a) × (size ≡ size_or size a)
+unfolding flow_or size_or
+no_flow flow size (Version v) h = (refl, refl)
+no_flow flow size (Roles m) h = (refl, refl)
+no_flow flow size (Flow n k v) h = absurd (h n k v refl)
+no_flow flow size Granted h = (refl, refl)
+no_flow flow size (Answer-as-Constraint s f) h = (refl, refl)
+no_flow flow size (Refused why) h = (refl, refl)
 
 pub finds : (e : Engine) (c : Call) (a : Answer) (n : ℕ) → done a e ≡ step last_version e c → n ≡ returned (verdict_of a) → (found found' : ℕ) → found' ≡ roles_or found a → Finds e c n found found'
 finds e c a n h q found found' r = record { number = by_number e e c a n h q; roles = r ∙ ap (roles_or found) (told_answer e e c a h); engine = told_after e e c a h }

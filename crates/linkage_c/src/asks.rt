@@ -6,8 +6,8 @@ ghost use Rattle.model.specs.declared.calls.Call.TheVariants.{Session};
 ghost use Rattle.encoding.specs.Written.{constraint_of};
 ghost use Rattle.given.specs.Given.{product_of, session_of, Tells, Finds, Adds, Shows, Judges};
 
-use given::{flow_or, number_of, roles_or, size_or, tell};
-use model::{Engine, Version};
+use given::{number_of, tell};
+use model::{Answer, Engine, Version};
 
 // 06 and 0b: the session is opened.
 #[unsafe(no_mangle)]
@@ -42,7 +42,9 @@ pub extern "C" fn linkage_lent_conflicting(
 {
     let s = number_of(product, session);
     let a = sessions::conflicting(roles, readers, forwards, opened, counts, reaches, s, root);
-    *found = roles_or(a, *found);
+    if let Answer::Roles(roles) = a {
+        *found = roles;
+    }
     answers::returned(a)
 }
 
@@ -75,8 +77,10 @@ pub extern "C" fn linkage_lent_add(
         roles, readers, forwards, version, opened, counts, roots, reaches, versions, denies,
         rolesets, s, root, chosen,
     );
-    *flow = flow_or(a, *flow);
-    *size = size_or(a, *size);
+    if let Answer::Flow { number, reach, .. } = a {
+        *flow = number;
+        *size = reach;
+    }
     tell(a, told)
 }
 
