@@ -52,7 +52,7 @@ impl<'a> Session<'a> {
             return None;
         }
         // It is no more than that anyway; here the bound is seen without the definition of the count.
-        let count = today::flows_today(&kept.counts, s).min(Engine::FLOWS);
+        let count = today::flows_today(kept, s).min(Engine::FLOWS);
         let may = graph::roles_by_flow(&tables.readers, &kept.reaches, s, count, 0);
         let mut flows = std::array::from_fn(|g| flow_of(kept, s, g, may[g]));
         let mut top = TOP;
@@ -64,13 +64,7 @@ impl<'a> Session<'a> {
             tables,
             flows,
             count,
-            conflicts: today::conflicts_today(
-                &tables.roles,
-                &tables.readers,
-                &kept.counts,
-                &kept.reaches,
-                s,
-            ),
+            conflicts: today::conflicts_today(tables, kept, s),
         })
     }
 
