@@ -6,9 +6,6 @@ use std::fmt;
 // How many bytes are held back before they are written.
 const ROOM: usize = 4096;
 
-// What comes of drawing a part: the height below it, or that the picture could not be written.
-pub(crate) type Height = Result<usize, fmt::Error>;
-
 #[derive(Drop)]
 pub(crate) struct Page {
     // The handle that standard output is written by. A page that is only measured has none.
