@@ -1,5 +1,6 @@
 // What the marks mean, and the style of all shapes.
-use super::page::{Height, Page};
+use super::column::Column;
+use super::page::Page;
 use super::shapes::{Area, Class, Look, Point};
 use super::{overlaps, shapes};
 use model::Engine;
@@ -8,8 +9,8 @@ use std::fmt::Write;
 
 const WIDTH: usize = 1280;
 
-// The middle of a mark.
-const MARK: usize = 91;
+// How far from the left the middle of a mark is.
+const MARK: usize = 67;
 
 // How deep a mark is with what is said of it.
 const DEPTH: usize = 40;
@@ -82,7 +83,7 @@ pub(crate) fn end(page: &mut Page) -> fmt::Result {
     page.write_str("</svg>\n")
 }
 
-// The names of the columns.
+// The names of the columns, at this height.
 pub(crate) fn columns(page: &mut Page, y: usize) -> fmt::Result {
     let names = [
         (162, "databases"),
@@ -96,16 +97,18 @@ pub(crate) fn columns(page: &mut Page, y: usize) -> fmt::Result {
     Ok(())
 }
 
-// What is said of a mark, beside it.
-fn said(page: &mut Page, y: usize, words: &str) -> fmt::Result {
-    let at = Point::at(124, y).down(5);
-    shapes::text(page, Class::Plain(Look::Text), at, words)
+// What is said of the mark that stands here. The next mark stands below it.
+fn said(column: &mut Column, words: &str) -> fmt::Result {
+    let at = column.at.right(100).down(5);
+    shapes::text(column.page, Class::Plain(Look::Text), at, words)?;
+    column.down(DEPTH);
+    Ok(())
 }
 
 // A rectangle of the first flow, as a mark.
-fn database(page: &mut Page, look: Look, x: usize, y: usize) -> fmt::Result {
+fn database(page: &mut Page, look: Look, left: Point) -> fmt::Result {
     let area = Area {
-        corner: Point::at(x, y).up(12),
+        corner: left.up(12),
         width: 34,
         height: 24,
     };
@@ -113,46 +116,37 @@ fn database(page: &mut Page, look: Look, x: usize, y: usize) -> fmt::Result {
 }
 
 // The marks of the left half.
-fn flow_marks(page: &mut Page, y: usize) -> fmt::Result {
-    database(page, Look::Border, 28, y)?;
-    database(page, Look::Root, 74, y)?;
+fn flow_marks(column: &mut Column) -> fmt::Result {
+    database(column.page, Look::Border, column.at.right(4))?;
+    database(column.page, Look::Root, column.at.right(50))?;
     said(
-        page,
-        y,
+        column,
         "a database that the flow's records come to; with a thick border: its root. Arrows are forwarding",
     )?;
-    let middle = Point::at(MARK, y).down(DEPTH);
-    shapes::circle(page, 0, middle, 16)?;
-    said(
-        page,
-        middle.y,
-        "a role that may read the databases at its lines",
-    )
+    shapes::circle(column.page, 0, column.at.right(MARK), 16)?;
+    said(column, "a role that may read the databases at its lines")
 }
 
 // The marks of the right half.
-fn role_marks(page: &mut Page, y: usize) -> fmt::Result {
-    let mut middle = Point::at(MARK, y);
+fn role_marks(column: &mut Column) -> fmt::Result {
     for (look, is_denied, words) in SQUARES {
-        overlaps::mark(page, look, is_denied, middle)?;
-        said(page, middle.y, words)?;
-        middle = middle.down(DEPTH);
+        overlaps::mark(column.page, look, is_denied, column.at.right(MARK))?;
+        said(column, words)?;
     }
     Ok(())
 }
 
-// All marks. Gives the height below them.
-pub(crate) fn marks(page: &mut Page, y: usize) -> Height {
-    let at = Point::at(24, y);
-    shapes::text(page, Class::Plain(Look::Heading), at, "Marks")?;
-    flow_marks(page, at.down(30).y)?;
-    role_marks(page, at.down(110).y)?;
-    let last = at.down(276);
-    shapes::text(
-        page,
-        Class::Plain(Look::Text),
-        last,
+// All marks.
+pub(crate) fn marks(column: &mut Column) -> fmt::Result {
+    column.line(Look::Heading, "Marks")?;
+    column.down(12);
+    flow_marks(column)?;
+    role_marks(column)?;
+    column.down(6);
+    column.line(
+        Look::Text,
         "Each flow has its colour. D, R and u are databases, roles and users, with the digits that frames have for them.",
     )?;
-    Ok(last.down(24).y)
+    column.down(6);
+    Ok(())
 }

@@ -5,6 +5,7 @@
 #![tactic(auto)]
 
 mod arguments;
+mod column;
 mod flows;
 mod legend;
 mod names;

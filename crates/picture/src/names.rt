@@ -1,12 +1,12 @@
 // The names of roles, databases and users, and texts that list them.
-use super::page::Page;
+use super::column::Column;
 use super::shapes;
-use super::shapes::{Class, Look, Point};
+use super::shapes::{Class, Look};
 use std::fmt;
 use std::fmt::{Display, Write};
 
-// How deep a line of a text is.
-pub(crate) const LINE: usize = 18;
+// How far to the right of the first line the others of a text begin.
+const INDENT: usize = 16;
 
 // A name, with the digits that frames have for it; a role and a database have no zero in front.
 #[derive(Clone, Copy)]
@@ -16,11 +16,9 @@ pub(crate) enum Name {
     User(usize),
 }
 
-// Names in an open text, which goes on in a new line where one is full.
+// Names in an open text of a column, which goes on in a new line where one is full.
 #[derive(Clone, Copy)]
 pub(crate) struct Names {
-    // Where the line stands, or would begin.
-    at: Point,
     // How many names a line has room for, and how many this one has room for still.
     room: usize,
     left: usize,
@@ -37,29 +35,20 @@ impl Display for Name {
 }
 
 impl Names {
-    // No name yet. New lines begin below this point, and have room for n names, as the first one has.
-    pub(crate) fn new(at: Point, n: usize) -> Names {
-        Names {
-            at,
-            room: n,
-            left: n,
-        }
+    // No name yet. Each line has room for n.
+    pub(crate) fn new(n: usize) -> Names {
+        Names { room: n, left: n }
     }
 
     // One more name.
-    pub(crate) fn put(&mut self, page: &mut Page, name: Name) -> fmt::Result {
+    pub(crate) fn put(&mut self, column: &mut Column, name: Name) -> fmt::Result {
         if self.left == 0 {
-            self.at = self.at.down(LINE);
             self.left = self.room;
-            shapes::end_text(page)?;
-            shapes::begin_text(page, Class::Plain(Look::Text), self.at)?;
+            column.end_text()?;
+            let next = column.at.right(INDENT);
+            shapes::begin_text(column.page, Class::Plain(Look::Text), next)?;
         }
         self.left = self.left.saturating_sub(1);
-        write!(page, " {name}")
-    }
-
-    // The height of the last line.
-    pub(crate) fn height(&self) -> usize {
-        self.at.y
+        write!(column.page, " {name}")
     }
 }

@@ -1,9 +1,10 @@
 // The right half of the picture: the overlapping roles, each once, with a line from each role that it
 // overlaps with, in the colour of the flow that this one reads. So a square shows the colours of all its
 // flows.
+use super::column::Column;
 use super::flows::{Flow, LEAVING};
 use super::names::Name;
-use super::page::{Height, Page};
+use super::page::Page;
 use super::session::Session;
 use super::shapes::{Area, Class, Look, Point, Step};
 use super::users::Pair;
@@ -14,7 +15,7 @@ use std::fmt;
 use tables::lent;
 
 // Where a line goes on level, with the users on it, where it ends, and where the square begins.
-const LEVEL: usize = 520;
+pub(crate) const LEVEL: usize = 520;
 
 const TURN: usize = 724;
 
@@ -69,47 +70,46 @@ impl Overlap {
 }
 
 // The line from a role of a flow, which stands at height `from`, to the middle of a square, with the users
-// on it at height y.
+// on it.
 fn edge(
-    page: &mut Page,
+    column: &mut Column,
     session: &Session,
     flow: &Flow,
     pair: Pair,
     from: usize,
-    y: usize,
     middle: usize,
 ) -> fmt::Result {
     let steps = [
         Step::Start(Point::at(LEAVING, from)),
-        Step::Straight(Point::at(LEVEL, y)),
-        Step::Straight(Point::at(TURN, y)),
+        Step::Straight(column.at),
+        Step::Straight(Point::at(TURN, column.at.y)),
         Step::Straight(Point::at(SQUARE, middle)),
     ];
-    shapes::path(page, Class::Of(Look::Line, flow.number), &steps)?;
-    let at = Point::at(LEVEL + 8, y).up(4);
-    shapes::begin_text(page, Class::Of(Look::FlowText, flow.number), at)?;
-    users::on_edge(page, &session.tables.roles, pair, at)?;
-    shapes::end_text(page)
+    shapes::path(column.page, Class::Of(Look::Line, flow.number), &steps)?;
+    let at = column.at.right(8).up(4);
+    let mut text = Column::new(column.page, at);
+    text.begin_text(Class::Of(Look::FlowText, flow.number))?;
+    users::on_edge(&mut text, &session.tables.roles, pair)?;
+    text.end_text()?;
+    column.down(LINE);
+    Ok(())
 }
 
-// The lines of one flow. Gives the height of the next line.
+// The lines of one flow.
 fn edges_of(
-    page: &mut Page,
+    column: &mut Column,
     session: &Session,
     flow: &Flow,
     overlap: Overlap,
-    y: usize,
     middle: usize,
-) -> Height {
-    let mut now = y;
+) -> fmt::Result {
     for (i, r) in Members(flow.may).enumerate() {
         if sets::contains(overlap.others, r) {
             let pair = Pair(r, overlap.role);
-            edge(page, session, flow, pair, flow.row(i), now, middle)?;
-            now = now.saturating_add(LINE);
+            edge(column, session, flow, pair, flow.row(i), middle)?;
         }
     }
-    Ok(now)
+    Ok(())
 }
 
 // A square without a name, with a second border where it is denied.
@@ -134,27 +134,28 @@ fn square(page: &mut Page, session: &Session, overlap: Overlap, y: usize) -> fmt
     shapes::label(page, ink, middle, Name::Role(overlap.role))
 }
 
-// A role with its lines. Gives the height where the next one begins.
-fn overlapping_role(page: &mut Page, session: &Session, overlap: Overlap, y: usize) -> Height {
+// A role with its lines, where it has any.
+fn overlapping_role(column: &mut Column, session: &Session, overlap: Overlap) -> fmt::Result {
     let n = overlap.lines(session);
     if n == 0 {
-        return Ok(y);
+        return Ok(());
     }
     let depth = n.saturating_mul(LINE).saturating_add(18);
-    let middle = y.saturating_add(depth / 2);
-    let mut now = y.saturating_add(9 + LINE / 2);
+    let middle = column.at.down(depth / 2).y;
+    let next = column.at.down(depth);
+    column.down(9 + LINE / 2);
     for flow in session.flows() {
-        now = edges_of(page, session, flow, overlap, now, middle)?;
+        edges_of(column, session, flow, overlap, middle)?;
     }
-    square(page, session, overlap, middle)?;
-    Ok(y.saturating_add(depth))
+    square(column.page, session, overlap, middle)?;
+    column.at = next;
+    Ok(())
 }
 
-// All overlapping roles. Gives the height below them.
-pub(crate) fn overlapping_roles(page: &mut Page, session: &Session, y: usize) -> Height {
-    let mut now = y;
+// All overlapping roles, in a column at LEVEL.
+pub(crate) fn overlapping_roles(column: &mut Column, session: &Session) -> fmt::Result {
     for o in 0..Engine::ROLES {
-        now = overlapping_role(page, session, Overlap::of(session, o), now)?;
+        overlapping_role(column, session, Overlap::of(session, o))?;
     }
-    Ok(now)
+    Ok(())
 }

@@ -1,21 +1,17 @@
 // Where a picture goes: to standard output, through a small buffer, or nowhere, while it is measured.
-ghost use Rattle.std.specs.Prelude.{◌≡◌, ◌≤◌};
+ghost use Rattle.std.specs.Prelude.{◌≡◌, []};
 
+use arrayvec::ArrayVec;
 use std::fmt;
 
 // How many bytes are held back before they are written.
 const ROOM: usize = 4096;
 
-// What comes of drawing a part: the height below it, or that the picture could not be written.
-pub(crate) type Height = Result<usize, fmt::Error>;
-
 #[derive(Drop)]
 pub(crate) struct Page {
     // The handle that standard output is written by. A page that is only measured has none.
     output: Option<HostRuntime>,
-    held: [u8; ROOM],
-    filled: usize,
-    ghost filled_le_room: { filled ≤ 4096 },
+    held: ArrayVec<u8, ROOM>,
 }
 
 impl Page {
@@ -23,8 +19,7 @@ impl Page {
     pub(crate) fn measured() -> Page {
         Page {
             output: None,
-            held: [0; ROOM],
-            filled: 0,
+            held: ArrayVec::new(),
         }
     }
 
@@ -32,18 +27,16 @@ impl Page {
     pub(crate) fn written(rt: HostRuntime) -> Page {
         Page {
             output: Some(rt),
-            held: [0; ROOM],
-            filled: 0,
+            held: ArrayVec::new(),
         }
     }
 
     // Writes what is held back, if the page is on standard output. Where not all can be written, that is
     // said.
     pub(crate) fn flush(&mut self) -> fmt::Result
-        ensures { self.new.filled ≡ 0 }
+        ensures { self.new.held.items ≡ [] }
     {
-        let end = self.filled;
-        self.filled = 0;
+        let held = self.held.take();
         let Some(rt) = self.output else {
             return Ok(());
         };
@@ -51,7 +44,7 @@ impl Page {
         let written = streams::write_or_say(
             rt,
             &mut output,
-            &self.held[..end],
+            &held,
             b"picture: the picture was not written whole",
         );
         if written.failure.is_some() {
@@ -59,22 +52,16 @@ impl Page {
         }
         Ok(())
     }
-
-    // One byte. A full buffer is written first.
-    fn byte(&mut self, byte: u8) -> fmt::Result {
-        if self.filled == ROOM {
-            self.flush()?;
-        }
-        self.held[self.filled] = byte;
-        self.filled += 1;
-        Ok(())
-    }
 }
 
 impl fmt::Write for Page {
+    // A full buffer is written first.
     fn write_str(&mut self, text: &str) -> fmt::Result {
         for byte in text.as_bytes() {
-            self.byte(*byte)?;
+            if self.held.is_full() {
+                self.flush()?;
+            }
+            self.held.push(*byte);
         }
         Ok(())
     }

@@ -1,18 +1,15 @@
 // The text beside the picture: the constraint of each flow, and why each role conflicts.
+use super::column::{Column, LINE};
 use super::flows::Flow;
-use super::names::{LINE, Name, Names};
+use super::names::{Name, Names};
 use super::overlaps::Overlap;
-use super::page::{Height, Page};
 use super::session::Session;
-use super::shapes::{Class, Look, Point};
+use super::shapes::{Class, Look};
 use super::{flows, shapes};
 use model::Engine;
 use sets::Members;
 use std::fmt;
 use std::fmt::{Display, Write};
-
-// Where the text stands.
-const LEFT: usize = 830;
 
 // How many roles stand on a line.
 const ON_A_LINE: usize = 9;
@@ -60,59 +57,59 @@ impl Display for Reason {
     }
 }
 
-// Where a line of the text begins.
-fn line(y: usize) -> Point {
-    Point::at(LEFT, y)
+// A heading.
+fn heading(column: &mut Column, words: &str) -> fmt::Result {
+    column.line(Look::Heading, words)?;
+    column.down(2);
+    Ok(())
 }
 
-// A heading. Gives the height of the line below it.
-pub(crate) fn heading(page: &mut Page, y: usize, words: &str) -> Height {
-    let at = line(y);
-    shapes::text(page, Class::Plain(Look::Heading), at, words)?;
-    Ok(at.down(LINE + 2).y)
-}
-
-// A text: its first words, and then the roles of a set, or what is said of none. Gives the height below
-// it.
-fn roles<D: Display + Drop>(page: &mut Page, y: usize, words: D, set: u64, none: &str) -> Height {
-    let at = line(y);
-    shapes::begin_text(page, Class::Plain(Look::Text), at)?;
-    page.write(words)?;
+// A text: its first words, and then the roles of a set, or what is said of none.
+fn roles<D: Display + Drop>(column: &mut Column, words: D, set: u64, none: &str) -> fmt::Result {
+    column.begin_text(Class::Plain(Look::Text))?;
+    column.page.write(words)?;
     if set == 0 {
-        page.write_str(none)?;
+        column.page.write_str(none)?;
     }
-    let mut names = Names::new(Point::at(LEFT + 16, y), ON_A_LINE);
+    let mut names = Names::new(ON_A_LINE);
     for r in Members(set) {
-        names.put(page, Name::Role(r))?;
+        names.put(column, Name::Role(r))?;
     }
-    shapes::end_text(page)?;
-    Ok(names.height().saturating_add(LINE))
+    column.end_text()
 }
 
-// A constraint's role sets: one for each flow up to its own. Gives the height below them.
-fn role_sets(page: &mut Page, flow: &Flow, y: usize) -> Height {
-    let mut now = y;
+// A constraint's role sets: one for each flow up to its own.
+fn role_sets(column: &mut Column, flow: &Flow) -> fmt::Result {
     for (h, set) in flow.constraint.roles.iter().enumerate() {
         if h <= flow.number {
             let words = format_args!("role set for flow {h:02x}:");
-            now = roles(page, now, words, *set, " none")?;
+            roles(column, words, *set, " none")?;
         }
     }
-    Ok(now)
+    Ok(())
 }
 
-// The constraint of a flow: its version, whom it denies, its role sets. Gives the height below it.
-pub(crate) fn constraint(page: &mut Page, flow: &Flow, y: usize) -> Height {
-    let at = line(y);
-    flows::title(page, flow, at)?;
+// The constraint of a flow: its version, whom it denies, its role sets.
+fn constraint(column: &mut Column, flow: &Flow) -> fmt::Result {
+    flows::title(column.page, flow, column.at)?;
     let version = flow.constraint.version;
     let words = format_args!("version {version:08x}");
-    let beside = Point::at(LEFT + 62, y);
-    shapes::text(page, Class::Plain(Look::Text), beside, words)?;
-    let deny = flow.constraint.deny;
-    let next = roles(page, at.down(LINE).y, "denies:", deny, " nobody")?;
-    let last = role_sets(page, flow, next)?;
-    Ok(last.saturating_add(6))
+    let beside = column.at.right(62);
+    shapes::text(column.page, Class::Plain(Look::Text), beside, words)?;
+    column.down(LINE);
+    roles(column, "denies:", flow.constraint.deny, " nobody")?;
+    role_sets(column, flow)?;
+    column.down(6);
+    Ok(())
+}
+
+// The constraints of all flows.
+pub(crate) fn constraints(column: &mut Column, session: &Session) -> fmt::Result {
+    heading(column, "Constraints")?;
+    for flow in session.flows() {
+        constraint(column, flow)?;
+    }
+    Ok(())
 }
 
 // The first two flows that a user with these roles reads.
@@ -136,18 +133,15 @@ fn why(session: &Session, c: usize) -> Option<Reason> {
     None
 }
 
-// Why each role conflicts that does. Gives the height below it.
-pub(crate) fn reasons(page: &mut Page, session: &Session, y: usize) -> Height {
-    let mut now = y;
+// Why each role conflicts that does.
+fn reasons(column: &mut Column, session: &Session) -> fmt::Result {
     for c in Members(session.conflicts) {
         if let Some(reason) = why(session, c) {
             let role = Name::Role(c);
-            let words = format_args!("{role}: {reason}");
-            shapes::text(page, Class::Plain(Look::Text), line(now), words)?;
-            now = now.saturating_add(LINE);
+            column.line(Look::Text, format_args!("{role}: {reason}"))?;
         }
     }
-    Ok(now)
+    Ok(())
 }
 
 // The roles that have two colours or more and don't conflict.
@@ -158,16 +152,27 @@ fn cleared(session: &Session) -> u64 {
     sets::difference(coloured, session.conflicts)
 }
 
-// Says of them that they don't. Gives the height below it.
-pub(crate) fn clearings(page: &mut Page, session: &Session, y: usize) -> Height {
+// Says of them that they don't.
+fn clearings(column: &mut Column, session: &Session) -> fmt::Result {
     let set = cleared(session);
     if set == 0 {
-        return Ok(y);
+        return Ok(());
     }
-    let words = "Lines of two flows, and no conflict";
-    let next = heading(page, line(y).down(14).y, words)?;
-    let at = line(next);
+    column.down(14);
+    heading(column, "Lines of two flows, and no conflict")?;
     let words = "Nobody who holds the role reads two flows:";
-    shapes::text(page, Class::Plain(Look::Text), at, words)?;
-    roles(page, at.down(LINE).y, "", set, "")
+    column.line(Look::Text, words)?;
+    roles(column, "", set, "")
+}
+
+// Which roles conflict today, and why.
+pub(crate) fn conflicting(column: &mut Column, session: &Session) -> fmt::Result {
+    let words = if session.conflicts == 0 {
+        "No role conflicts today"
+    } else {
+        "Why roles conflict today"
+    };
+    heading(column, words)?;
+    reasons(column, session)?;
+    clearings(column, session)
 }

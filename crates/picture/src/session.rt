@@ -4,8 +4,9 @@ ghost use Rattle.model.specs.Limits.{flow_count};
 ghost use Rattle.model.specs.State.{all_sessions};
 
 use super::arguments::Asked;
+use super::column::Column;
 use super::flows::Flow;
-use super::page::{Height, Page};
+use super::page::Page;
 use super::shapes::{Class, Look, Point};
 use super::{flows, legend, overlaps, panel, shapes, users};
 use model::{Engine, Sessions};
@@ -14,6 +15,11 @@ use tables::Tables;
 
 // Where the columns begin.
 const TOP: usize = 84;
+
+// How far from the left the text beside the picture stands, and what stands below all columns.
+const BESIDE: usize = 830;
+
+const LEFT: usize = 24;
 
 // An open session, as a picture shows it.
 #[derive(Clone, Copy)]
@@ -52,7 +58,7 @@ impl<'a> Session<'a> {
             return None;
         }
         // It is no more than that anyway; here the bound is seen without the definition of the count.
-        let count = today::flows_today(&kept.counts, s).min(Engine::FLOWS);
+        let count = today::flows_today(kept, s).min(Engine::FLOWS);
         let may = graph::roles_by_flow(&tables.readers, &kept.reaches, s, count, 0);
         let mut flows = std::array::from_fn(|g| flow_of(kept, s, g, may[g]));
         let mut top = TOP;
@@ -64,13 +70,7 @@ impl<'a> Session<'a> {
             tables,
             flows,
             count,
-            conflicts: today::conflicts_today(
-                &tables.roles,
-                &tables.readers,
-                &kept.counts,
-                &kept.reaches,
-                s,
-            ),
+            conflicts: today::conflicts_today(tables, kept, s),
         })
     }
 
@@ -84,6 +84,11 @@ impl<'a> Session<'a> {
         last.map_or(0, |flow| flow.constraint.deny)
     }
 
+    // The height below the bands.
+    fn below(&self) -> usize {
+        self.flows().last().map_or(TOP, |flow| flow.below())
+    }
+
     // The roles that may read some flow.
     fn readers(&self) -> u64 {
         self.flows()
@@ -92,60 +97,43 @@ impl<'a> Session<'a> {
     }
 }
 
-// The bands. Gives the height below them.
-fn bands(page: &mut Page, session: &Session) -> Height {
+// The bands of the flows.
+fn bands(page: &mut Page, session: &Session) -> fmt::Result {
     for flow in session.flows() {
         flows::draw(page, session.tables, flow)?;
     }
-    Ok(session.flows().last().map_or(TOP, |flow| flow.below()))
+    Ok(())
 }
 
-// The constraints. Gives the height below them.
-fn constraints(page: &mut Page, session: &Session) -> Height {
-    let mut y = panel::heading(page, TOP, "Constraints")?;
-    for flow in session.flows() {
-        y = panel::constraint(page, flow, y)?;
-    }
-    Ok(y)
+// The columns of a session that has flows, beside one another. What comes next stands below them all.
+fn columns(foot: &mut Column, session: &Session) -> fmt::Result {
+    legend::columns(foot.page, TOP - 14)?;
+    bands(foot.page, session)?;
+    let mut right = Column::new(foot.page, Point::at(overlaps::LEVEL, TOP));
+    overlaps::overlapping_roles(&mut right, session)?;
+    let lowest = session.below().max(right.at.y);
+    let mut beside = Column::new(foot.page, Point::at(BESIDE, TOP));
+    panel::constraints(&mut beside, session)?;
+    beside.down(8);
+    panel::conflicting(&mut beside, session)?;
+    foot.at.y = lowest.max(beside.at.y);
+    Ok(())
 }
 
-// Which roles conflict today, and why. Gives the height below it.
-fn conflicting(page: &mut Page, session: &Session, y: usize) -> Height {
-    let words = if session.conflicts == 0 {
-        "No role conflicts today"
-    } else {
-        "Why roles conflict today"
-    };
-    let next = panel::heading(page, y.saturating_add(8), words)?;
-    let last = panel::reasons(page, session, next)?;
-    panel::clearings(page, session, last)
-}
-
-// The lists of users and the marks, below all columns. Gives the height of the picture.
-fn foot(page: &mut Page, session: &Session, y: usize) -> Height {
-    let roles = &session.tables.roles;
-    let next = users::notes(page, roles, session.readers(), y.saturating_add(30))?;
-    legend::marks(page, next.saturating_add(10))
-}
-
-// What stands below the title of a session without flows. Gives the height of the picture.
-fn empty(page: &mut Page) -> Height {
-    let words = "The session is open and has no flows.";
-    shapes::text(page, Class::Plain(Look::Text), Point::at(24, 70), words)?;
-    Ok(100)
-}
-
-// All that stands below the title. Gives the height of the picture.
-fn whole(page: &mut Page, session: &Session) -> Height {
+// Draws all that stands below the title. Gives the height of the picture.
+fn whole(page: &mut Page, session: &Session) -> Result<usize, fmt::Error> {
+    let mut column = Column::new(page, Point::at(LEFT, 70));
     if session.flows().is_empty() {
-        return empty(page);
+        column.line(Look::Text, "The session is open and has no flows.")?;
+        column.down(12);
+    } else {
+        columns(&mut column, session)?;
+        column.down(30);
+        users::notes(&mut column, &session.tables.roles, session.readers())?;
+        column.down(10);
+        legend::marks(&mut column)?;
     }
-    legend::columns(page, TOP - 14)?;
-    let left = bands(page, session)?;
-    let right = overlaps::overlapping_roles(page, session, TOP)?;
-    let text = constraints(page, session)?;
-    let beside = conflicting(page, session, text)?;
-    foot(page, session, left.max(right).max(beside))
+    Ok(column.at.y)
 }
 
 // Writes the picture of the session that was asked for. It is measured before, since its height stands at
@@ -158,7 +146,7 @@ pub(crate) fn show(rt: HostRuntime, asked: Asked, session: &Session) -> fmt::Res
     shapes::text(
         &mut page,
         Class::Plain(Look::Title),
-        Point::at(24, 36),
+        Point::at(LEFT, 36),
         words,
     )?;
     whole(&mut page, session)?;

@@ -70,6 +70,10 @@ impl Point {
     pub(crate) fn up(self, n: usize) -> Point {
         Point::at(self.x, self.y.saturating_sub(n))
     }
+
+    pub(crate) fn right(self, n: usize) -> Point {
+        Point::at(self.x.saturating_add(n), self.y)
+    }
 }
 
 impl Area {

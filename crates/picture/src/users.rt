@@ -1,8 +1,7 @@
 // The users who hold two roles: on an edge where they are few, else in a list below the picture.
-use super::names::{LINE, Name, Names};
-use super::page::{Height, Page};
-use super::shapes;
-use super::shapes::{Class, Look, Point};
+use super::column::Column;
+use super::names::{Name, Names};
+use super::shapes::{Class, Look};
 use model::Engine;
 use sets::Members;
 use std::fmt;
@@ -41,45 +40,41 @@ impl Display for Pair {
     }
 }
 
-// The names of those who hold both roles, in an open text that begins here. Gives the height of its last
-// line.
-fn users(page: &mut Page, roles: &[u64; Engine::USERS], pair: Pair, at: Point) -> Height {
-    let mut names = Names::new(at, ON_A_LINE);
+// The names of those who hold both roles, in an open text.
+fn users(column: &mut Column, roles: &[u64; Engine::USERS], pair: Pair) -> fmt::Result {
+    let mut names = Names::new(ON_A_LINE);
     for (u, held) in roles.iter().enumerate() {
         if pair.is_within(*held) {
-            names.put(page, Name::User(u))?;
+            names.put(column, Name::User(u))?;
         }
     }
-    Ok(names.height())
-}
-
-// What stands on the edge from one role to the other, in a text that is open here.
-pub(crate) fn on_edge(
-    page: &mut Page,
-    roles: &[u64; Engine::USERS],
-    pair: Pair,
-    at: Point,
-) -> fmt::Result {
-    let role = Name::Role(pair.0);
-    write!(page, "{role}:")?;
-    let n = pair.count(roles);
-    if FIT < n {
-        return write!(page, " {n} users, listed below");
-    }
-    users(page, roles, pair, at)?;
     Ok(())
 }
 
-// The users who hold both roles, where an edge has no room for them. Gives the height below them.
-fn note(page: &mut Page, roles: &[u64; Engine::USERS], pair: Pair, y: usize) -> Height {
-    if pair.count(roles) <= FIT {
-        return Ok(y);
+// What stands on the edge from one role to the other, in an open text.
+pub(crate) fn on_edge(
+    column: &mut Column,
+    roles: &[u64; Engine::USERS],
+    pair: Pair,
+) -> fmt::Result {
+    let role = Name::Role(pair.0);
+    write!(column.page, "{role}:")?;
+    let n = pair.count(roles);
+    if FIT < n {
+        return write!(column.page, " {n} users, listed below");
     }
-    shapes::begin_text(page, Class::Plain(Look::Text), Point::at(24, y))?;
-    write!(page, "{pair}")?;
-    let last = users(page, roles, pair, Point::at(40, y))?;
-    shapes::end_text(page)?;
-    Ok(last.saturating_add(LINE))
+    users(column, roles, pair)
+}
+
+// The users who hold both roles, where an edge has no room for them.
+fn note(column: &mut Column, roles: &[u64; Engine::USERS], pair: Pair) -> fmt::Result {
+    if pair.count(roles) <= FIT {
+        return Ok(());
+    }
+    column.begin_text(Class::Plain(Look::Text))?;
+    write!(column.page, "{pair}")?;
+    users(column, roles, pair)?;
+    column.end_text()
 }
 
 // Whether the edge between r and o comes first here: from both sides it is one pair of roles.
@@ -89,26 +84,23 @@ fn is_first(may: u64, r: usize, o: usize) -> bool {
 
 // The lists of the edges that leave role r.
 fn notes_from(
-    page: &mut Page,
+    column: &mut Column,
     roles: &[u64; Engine::USERS],
     may: u64,
     r: usize,
-    y: usize,
-) -> Height {
-    let mut now = y;
+) -> fmt::Result {
     for o in 0..Engine::ROLES {
         if is_first(may, r, o) {
-            now = note(page, roles, Pair(r, o), now)?;
+            note(column, roles, Pair(r, o))?;
         }
     }
-    Ok(now)
+    Ok(())
 }
 
-// All lists, of the roles that may read some flow. Gives the height below them.
-pub(crate) fn notes(page: &mut Page, roles: &[u64; Engine::USERS], may: u64, y: usize) -> Height {
-    let mut now = y;
+// All lists, of the roles that may read some flow.
+pub(crate) fn notes(column: &mut Column, roles: &[u64; Engine::USERS], may: u64) -> fmt::Result {
     for r in Members(may) {
-        now = notes_from(page, roles, may, r, now)?;
+        notes_from(column, roles, may, r)?;
     }
-    Ok(now)
+    Ok(())
 }

@@ -48,27 +48,27 @@ fn limits(rt: HostRuntime) {
 // and user 2. The parents of role 2.
 fn flows(rt: HostRuntime, t: Tables) {
     line(rt, reach(t, 0));
-    count(rt, reach_size(t, 0));
+    line(rt, reach_size(t, 0));
     line(rt, reach(t, 1));
-    count(rt, reach_size(t, 1));
+    line(rt, reach_size(t, 1));
     let s = reach(t, 1);
     line(rt, readers(t, s));
-    answer(rt, reads(t, 1, s));
-    answer(rt, reads(t, 2, s));
+    line(rt, reads(t, 1, s));
+    line(rt, reads(t, 2, s));
     line(rt, parents(t, 4));
 }
 
 // Each table asked for a pair that is there and for one that is not; a role that somebody holds,
 // and one that nobody does.
 fn pairs(rt: HostRuntime, t: Tables) {
-    answer(rt, holds(t, 1, 2));
-    answer(rt, holds(t, 2, 2));
-    answer(rt, may_read(t, 1, 1));
-    answer(rt, may_read(t, 1, 0));
-    answer(rt, forwards_to(t, 1, 2));
-    answer(rt, forwards_to(t, 2, 1));
-    answer(rt, held(t, 2));
-    answer(rt, held(t, 3));
+    line(rt, holds(t, 1, 2));
+    line(rt, holds(t, 2, 2));
+    line(rt, may_read(t, 1, 1));
+    line(rt, may_read(t, 1, 0));
+    line(rt, forwards_to(t, 1, 2));
+    line(rt, forwards_to(t, 2, 1));
+    line(rt, held(t, 2));
+    line(rt, held(t, 3));
 }
 
 // 3 forwards to 4, and so on to 63: the reach of 3 and of 63. Then 63 forwards to 3: both again.
@@ -76,16 +76,16 @@ fn pairs(rt: HostRuntime, t: Tables) {
 fn chain(rt: HostRuntime, t: Tables) {
     let t = linked(t);
     line(rt, reach(t, 3));
-    count(rt, reach_size(t, 3));
+    line(rt, reach_size(t, 3));
     line(rt, reach(t, 63));
     let t = forward(t, 63, 3);
     line(rt, reach(t, 3));
-    count(rt, reach_size(t, 3));
+    line(rt, reach_size(t, 3));
     line(rt, reach(t, 63));
     let t = forward(t, 0, 1);
     let t = forward(t, 2, 3);
     line(rt, reach(t, 0));
-    count(rt, reach_size(t, 0));
+    line(rt, reach_size(t, 0));
 }
 
 // The tables in which also each database from 3 to 62 forwards to the next.
@@ -99,8 +99,8 @@ fn linked(mut t: Tables) -> Tables {
 // User 1 loses role 2: nobody holds it, so it has no parent. The user's other roles stay.
 fn withdrawn(rt: HostRuntime, t: Tables) {
     let t = withdraw(t, 1, 2);
-    answer(rt, holds(t, 1, 2));
-    answer(rt, held(t, 2));
+    line(rt, holds(t, 1, 2));
+    line(rt, held(t, 2));
     line(rt, parents(t, 4));
     line(rt, parents(t, 1));
 }
@@ -109,47 +109,47 @@ fn withdrawn(rt: HostRuntime, t: Tables) {
 // database 0. Then 1 does not forward to 2 any more: the reach of 1 is its root.
 fn undone(rt: HostRuntime, t: Tables) {
     let t = revoke(t, 1, 1);
-    answer(rt, may_read(t, 1, 1));
+    line(rt, may_read(t, 1, 1));
     let s = reach(t, 1);
     line(rt, readers(t, s));
-    answer(rt, reads(t, 1, s));
-    answer(rt, may_read(t, 0, 0));
+    line(rt, reads(t, 1, s));
+    line(rt, may_read(t, 0, 0));
     let t = unforward(t, 1, 2);
-    answer(rt, forwards_to(t, 1, 2));
+    line(rt, forwards_to(t, 1, 2));
     line(rt, reach(t, 1));
-    count(rt, reach_size(t, 1));
+    line(rt, reach_size(t, 1));
 }
 
 // Above the limits nothing is there, also where the number less the limit is.
 fn nothing_there(rt: HostRuntime, t: Tables) {
-    answer(rt, holds(t, 1, 64));
-    answer(rt, holds(t, 256, 0));
-    answer(rt, holds(t, 257, 0));
-    answer(rt, may_read(t, 64, 0));
-    answer(rt, may_read(t, 0, 64));
-    answer(rt, forwards_to(t, 65, 2));
-    answer(rt, forwards_to(t, 1, 66));
-    answer(rt, held(t, 64));
+    line(rt, holds(t, 1, 64));
+    line(rt, holds(t, 256, 0));
+    line(rt, holds(t, 257, 0));
+    line(rt, may_read(t, 64, 0));
+    line(rt, may_read(t, 0, 64));
+    line(rt, forwards_to(t, 65, 2));
+    line(rt, forwards_to(t, 1, 66));
+    line(rt, held(t, 64));
     line(rt, reach(t, 64));
-    count(rt, reach_size(t, 64));
-    answer(rt, reads(t, 257, ALL));
+    line(rt, reach_size(t, 64));
+    line(rt, reads(t, 257, ALL));
 }
 
 // Above the limits nothing is entered, nor at the number less the limit. All parents, all readers
 // and the reach of 0 and of 1 are as before.
 fn nothing_entered(rt: HostRuntime, t: Tables) {
     let t = assign(t, 3, 64);
-    answer(rt, holds(t, 3, 0));
+    line(rt, holds(t, 3, 0));
     let t = assign(t, 256, 3);
-    answer(rt, held(t, 3));
+    line(rt, held(t, 3));
     let t = permit(t, 64, 2);
-    answer(rt, may_read(t, 0, 2));
+    line(rt, may_read(t, 0, 2));
     let t = permit(t, 3, 64);
-    answer(rt, may_read(t, 3, 0));
+    line(rt, may_read(t, 3, 0));
     let t = forward(t, 64, 5);
-    answer(rt, forwards_to(t, 0, 5));
+    line(rt, forwards_to(t, 0, 5));
     let t = forward(t, 0, 64);
-    answer(rt, forwards_to(t, 0, 0));
+    line(rt, forwards_to(t, 0, 0));
     line(rt, parents(t, ALL));
     line(rt, readers(t, ALL));
     line(rt, reach(t, 0));
@@ -159,17 +159,17 @@ fn nothing_entered(rt: HostRuntime, t: Tables) {
 // Above the limits nothing is struck out, nor at the number less the limit.
 fn nothing_struck(rt: HostRuntime, t: Tables) {
     let t = withdraw(t, 1, 64);
-    answer(rt, holds(t, 1, 0));
+    line(rt, holds(t, 1, 0));
     let t = withdraw(t, 257, 1);
-    answer(rt, holds(t, 1, 1));
+    line(rt, holds(t, 1, 1));
     let t = revoke(t, 64, 0);
-    answer(rt, may_read(t, 0, 0));
+    line(rt, may_read(t, 0, 0));
     let t = revoke(t, 1, 65);
-    answer(rt, may_read(t, 1, 1));
+    line(rt, may_read(t, 1, 1));
     let t = unforward(t, 65, 2);
-    answer(rt, forwards_to(t, 1, 2));
+    line(rt, forwards_to(t, 1, 2));
     let t = unforward(t, 1, 66);
-    answer(rt, forwards_to(t, 1, 2));
+    line(rt, forwards_to(t, 1, 2));
 }
 
 // Role 1 gets a mandate at database 1, and role 2, which may not read it, at database 0: each asked for
@@ -177,38 +177,34 @@ fn nothing_struck(rt: HostRuntime, t: Tables) {
 // entered, nor at the number less the limit. The other tables are as before: all parents, all readers,
 // the reach of 0 and of 1. Then role 1 may not read database 1 any more, and its mandate stays.
 fn mandates(rt: HostRuntime, t: Tables) {
-    answer(rt, has_mandate(t, 1, 1));
+    line(rt, has_mandate(t, 1, 1));
     let t = mandate(t, 1, 1);
-    answer(rt, has_mandate(t, 1, 1));
-    answer(rt, has_mandate(t, 2, 0));
+    line(rt, has_mandate(t, 1, 1));
+    line(rt, has_mandate(t, 2, 0));
     let t = mandate(t, 2, 0);
-    answer(rt, has_mandate(t, 2, 0));
-    answer(rt, has_mandate(t, 0, 1));
-    answer(rt, has_mandate(t, 1, 0));
-    answer(rt, has_mandate(t, 65, 1));
-    answer(rt, has_mandate(t, 1, 65));
+    line(rt, has_mandate(t, 2, 0));
+    line(rt, has_mandate(t, 0, 1));
+    line(rt, has_mandate(t, 1, 0));
+    line(rt, has_mandate(t, 65, 1));
+    line(rt, has_mandate(t, 1, 65));
     let t = mandate(t, 64, 1);
-    answer(rt, has_mandate(t, 0, 1));
+    line(rt, has_mandate(t, 0, 1));
     let t = mandate(t, 0, 64);
-    answer(rt, has_mandate(t, 0, 0));
+    line(rt, has_mandate(t, 0, 0));
     line(rt, parents(t, ALL));
     line(rt, readers(t, ALL));
     line(rt, reach(t, 0));
     line(rt, reach(t, 1));
     let t = revoke(t, 1, 1);
-    answer(rt, may_read(t, 1, 1));
-    answer(rt, has_mandate(t, 1, 1));
+    line(rt, may_read(t, 1, 1));
+    line(rt, has_mandate(t, 1, 1));
 }
 
-// Where a line can't be written there is nobody to tell.
-fn line(rt: HostRuntime, n: u64) {
+// A number, or a yes or no as one. Where a line can't be written there is nobody to tell.
+fn line<N>(rt: HostRuntime, n: N)
+where
+    u64: From<N>,
+{
+    let n = u64::from(n);
     let _ = println!(rt; "{n:016x}");
-}
-
-fn count(rt: HostRuntime, n: u32) {
-    line(rt, u64::from(n));
-}
-
-fn answer(rt: HostRuntime, b: bool) {
-    line(rt, u64::from(b));
 }

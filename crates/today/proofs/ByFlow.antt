@@ -1,7 +1,7 @@
 -- Where the sets are the readers of the flows that are there, what the search finds is what conflicts.
 -- Assumes nothing.
 use Prim.Native.Nat.{ℕ, ◌≤◌, ◌<◌}
-use mathlib.Core.Path.{◌≡◌, refl, ap, ◌∙◌}
+use mathlib.Core.Path.{◌≡◌, refl, ap, sym, ◌∙◌}
 use mathlib.Core.Bool.{Bool, true, false, cond, ◌&&◌}
 use mathlib.Core.List.{List}
 use native.Mathlib.Nat.{zero-add}
@@ -12,6 +12,7 @@ use borrow.Author.Tests.{lt-ltb, leb-false}
 use Rattle.sets.specs.Sets.{meeting}
 use Rattle.sets.proofs.Laws.{some_cong, count_cong, set_of_cong}
 use Rattle.rows.specs.Rows.{there}
+use Rattle.tables.specs.declared.Tables.{Tables}
 use Rattle.tables.specs.Tables.{readers_of, user_count, role_count, database_count}
 use Rattle.tables.proofs.Laws.{meets_readers}
 use Rattle.model.specs.declared.Sessions.{Sessions}
@@ -60,8 +61,7 @@ at_most S s n e = rw e (go (leb all_sessions s) (leb flow_count (flows_in S s)) 
     go false true q = omega arith
     go false false q = omega (arith, leb-false flow_count (flows_in S s) q)
 
-pub found : (roles readers forwards mandates may : List ℕ) (S : Sessions) (s n : ℕ) → n ≡ flows_today S s → may ≡ roles_by_flow readers S.reaches s n 0
-    → conflicts_of roles may n ≡ conflicts_today (tables_of roles readers forwards mandates) S s
+-- what conflicts is what the search finds in the readers of each flow
+pub found : (T : Tables) (S : Sessions) (s : ℕ) → conflicts_today T S s ≡ conflicts_of T.roles (roles_by_flow T.readers S.reaches s (flows_today S s) 0) (flows_today S s)
 unfolding conflicts_today conflicts
-found roles readers forwards mandates may S s n p q =
-    rw (q, p) (searched roles readers forwards mandates _ (flows_today S s) (reach_today S s) (λ g l. roles_there readers S.reaches s (flows_today S s) g (within S s g l).0 l (within S s g l).1))
+found T S s = sym (searched T.roles T.readers T.forwards T.mandates _ (flows_today S s) (reach_today S s) (λ g l. roles_there T.readers S.reaches s (flows_today S s) g (within S s g l).0 l (within S s g l).1))
