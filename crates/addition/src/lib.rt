@@ -2,7 +2,8 @@
 // answered in one function, which promises what the call's definition in `model` says. Its work runs in
 // the order of `graph`: databases, roles, overlapping roles. A session has here its number among those
 // of both products.
-// Kept: tests one below the other, as the refusal table has its rows, and no `?` behind them.
+// Kept: tests one below the other, in the order of the refusal table. An `Answer` is no `Result`, so that no
+// `?` goes through it.
 #![tactic(auto)]
 
 ghost use Rattle.std.specs.Prelude.{◌≡◌, List, ℕ, ◌<◌, ◌*◌};

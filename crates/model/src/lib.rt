@@ -63,6 +63,7 @@ pub struct Changed {
 }
 
 // The answer to a question about a constraint, and the constraint, which is zero where it is refused.
+// Kept: beside each other and no `Option`, since what stands beside a refusal is promised too.
 #[derive(Clone, Copy)]
 pub struct Shown {
     pub answer: Answer,

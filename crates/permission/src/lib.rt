@@ -1,6 +1,7 @@
 // The calls that change which role may read which database. Each is checked, carried out in place on
 // lent arrays and answered in one function, which promises what the call's definition in `model` says.
-// Kept: tests one below the other, as the refusal table has its rows, and no `?` behind them.
+// Kept: tests one below the other, in the order of the refusal table. An `Answer` is no `Result`, so that no
+// `?` goes through it.
 #![tactic(auto)]
 
 ghost use Rattle.std.specs.Prelude.{◌≡◌, false, List, ℕ};

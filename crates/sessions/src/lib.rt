@@ -1,7 +1,8 @@
 // What is asked of sessions, but for new flows, which are in `addition`. Each call is checked, carried
 // out in place on lent arrays and answered in one function, which promises what the call's definition in
 // `model` says. A session has here its number among those of both products, which `session_at` gives.
-// Kept: tests one below the other, as the refusal table has its rows, and no `?` behind them.
+// Kept: tests one below the other, in the order of the refusal table. An `Answer` is no `Result`, so that no
+// `?` goes through it.
 #![tactic(auto)]
 
 ghost use Rattle.std.specs.Prelude.{◌≡◌, List, ℕ, ◌+◌, ◌*◌, get_or, replicate};
