@@ -4,9 +4,9 @@ use super::names::Name;
 use super::page::Page;
 use super::shapes;
 use super::shapes::{Area, Class, Look, Point, Step};
-use model::Constraint;
-use sets::Members;
+use model::{Constraint, Engine};
 use std::fmt;
+use sets::Members;
 use tables::{Tables, lent};
 
 // A row of a band, and what stands above the first one.
@@ -36,6 +36,24 @@ pub(crate) struct Flow {
     pub(crate) may: u64,
     pub(crate) constraint: Constraint,
     pub(crate) top: usize,
+}
+
+// No flow: with it an `ArrayVec` fills the places that are not in use.
+impl Default for Flow {
+    fn default() -> Flow {
+        Flow {
+            number: 0,
+            root: 0,
+            reach: 0,
+            may: 0,
+            constraint: Constraint {
+                version: 0,
+                deny: 0,
+                roles: [0; Engine::FLOWS],
+            },
+            top: 0,
+        }
+    }
 }
 
 impl Flow {

@@ -33,6 +33,7 @@ fn carry_out(rt: HostRuntime, engine: &mut Engine) -> bool {
     let mut input = Input::new();
     let mut output = [0u8; BUFFER];
     let mut source = rt.stdin();
+    // Kept: a loop by the turns that `Input::next` promises to leave fewer, which a `for` would not show.
     while 0 < input.held.turns {
         let fed = frames::feed(engine, input.part(), &mut output);
         let lines = carried_out(input.held.lines, &output, fed.written);

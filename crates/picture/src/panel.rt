@@ -123,14 +123,14 @@ fn two_readings(session: &Session, held: u64) -> Option<(Reading, Reading)> {
 
 // Why role c conflicts: the first user who holds it and reads two flows, and the first two of these.
 fn why(session: &Session, c: usize) -> Option<Reason> {
-    for (user, held) in session.tables.roles.iter().enumerate() {
-        if sets::contains(*held, c)
-            && let Some((one, other)) = two_readings(session, *held)
-        {
-            return Some(Reason { user, one, other });
+    let mut users = session.tables.roles.iter().enumerate();
+    users.find_map(|(user, held)| {
+        if !sets::contains(*held, c) {
+            return None;
         }
-    }
-    None
+        let (one, other) = two_readings(session, *held)?;
+        Some(Reason { user, one, other })
+    })
 }
 
 // Why each role conflicts that does.

@@ -1,5 +1,5 @@
 // The picture of a session.
-ghost use Rattle.std.specs.Prelude.{◌<◌, ◌≤◌};
+ghost use Rattle.std.specs.Prelude.{◌<◌};
 ghost use Rattle.model.specs.Limits.{flow_count};
 ghost use Rattle.model.specs.State.{all_sessions};
 
@@ -9,6 +9,7 @@ use super::flows::Flow;
 use super::page::Page;
 use super::shapes::{Class, Look, Point};
 use super::{flows, legend, overlaps, panel, shapes, users};
+use arrayvec::ArrayVec;
 use model::{Engine, Sessions};
 use std::fmt;
 use tables::Tables;
@@ -22,19 +23,16 @@ const BESIDE: usize = 830;
 const LEFT: usize = 24;
 
 // An open session, as a picture shows it.
-#[derive(Clone, Copy)]
+#[derive(Drop)]
 pub(crate) struct Session<'a> {
     pub(crate) tables: &'a Tables,
-    // As many flows as it has, and then others that are none.
-    flows: [Flow; Engine::FLOWS],
-    count: usize,
+    flows: ArrayVec<Flow, { Engine::FLOWS }>,
     // The roles that conflict today.
     pub(crate) conflicts: u64,
-    ghost count_le_flow_count: { count ≤ flow_count },
 }
 
-// Flow g of session s, with the roles that may read it, as if it had the first band.
-fn flow_of(kept: &Sessions, s: usize, g: usize, may: u64) -> Flow
+// Flow g of session s, with the roles that may read it and where its band begins.
+fn flow_of(kept: &Sessions, s: usize, g: usize, may: u64, top: usize) -> Flow
     requires s_lt_all_sessions { s < all_sessions }
     requires g_lt_flow_count { g < flow_count }
 {
@@ -45,37 +43,37 @@ fn flow_of(kept: &Sessions, s: usize, g: usize, may: u64) -> Flow
         reach: kept.reaches[at],
         may,
         constraint: values::shown(*kept, s, g).constraint,
-        top: TOP,
+        top,
     }
 }
 
 impl<'a> Session<'a> {
     // Session s of an engine, where it is open. It has its number among those of both products.
+    #[tactic(auto, unfolding(today::specs::Today::flows_today))]
     pub(crate) fn of(engine: &'a Engine, s: usize) -> Option<Session<'a>> {
         let tables = &engine.directory.tables;
         let kept = &engine.sessions;
         if Engine::ALL_SESSIONS <= s || !sets::contains(kept.opened, s) {
             return None;
         }
-        // It is no more than that anyway; here the bound is seen without the definition of the count.
-        let count = today::flows_today(kept, s).min(Engine::FLOWS);
+        let count = today::flows_today(kept, s);
         let may = graph::roles_by_flow(&tables.readers, &kept.reaches, s, count, 0);
-        let mut flows = std::array::from_fn(|g| flow_of(kept, s, g, may[g]));
+        let mut flows = ArrayVec::new();
         let mut top = TOP;
-        for flow in flows.iter_mut() {
-            flow.top = top;
+        for (g, roles) in may[..count].iter().enumerate() {
+            let flow = flow_of(kept, s, g, *roles, top);
             top = flow.below();
+            flows.push(flow);
         }
         Some(Session {
             tables,
             flows,
-            count,
             conflicts: today::conflicts_today(tables, kept, s),
         })
     }
 
     pub(crate) fn flows(&self) -> &[Flow] {
-        &self.flows[..self.count]
+        &self.flows
     }
 
     // The roles that the last flow's constraint denies.
