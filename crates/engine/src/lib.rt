@@ -18,23 +18,7 @@ pub use values::fresh;
 pub fn carry_out(engine: &mut Engine, call: Call) -> Answer
     ensures { done result engine.new ≡ step last_version engine.old call }
 {
-    // Kept: the parts are written out here and in `frames`. A function that handed them out of an engine
-    // would use the `&mut` to it while they are lent, and is refused.
-    let mut parts = Parts {
-        roles: &mut engine.directory.tables.roles,
-        readers: &mut engine.directory.tables.readers,
-        forwards: &mut engine.directory.tables.forwards,
-        mandates: &mut engine.directory.tables.mandates,
-        users: &mut engine.directory.versions,
-        version: &mut engine.directory.version,
-        opened: &mut engine.sessions.opened,
-        counts: &mut engine.sessions.counts,
-        roots: &mut engine.sessions.roots,
-        reaches: &mut engine.sessions.reaches,
-        versions: &mut engine.sessions.versions,
-        denies: &mut engine.sessions.denies,
-        rolesets: &mut engine.sessions.rolesets,
-    };
+    let mut parts = step::parts_of!(engine);
     step(&mut parts, call)
 }
 
@@ -161,28 +145,10 @@ pub fn show(e: Engine, product: Product, s: usize, f: usize) -> Shown
 }
 
 // 09 and 0e
-// Kept: the arrays one by one, since `Parts` holds mutable references, and of an engine by value nothing is
-// lent so.
-pub fn read(e: Engine, product: Product, u: usize, s: usize, f: usize, d: usize) -> Verdict
+#[tactic(auto, using(verdict::proofs::Laws::back, model::proofs::Laws::verdict_answer), unfolding(model::specs::Calls::verdict, model::specs::Calls::answer, model::specs::Calls::step))]
+pub fn read(mut e: Engine, product: Product, u: usize, s: usize, f: usize, d: usize) -> Verdict
     ensures { result ≡ verdict e (Call.Read product u s f d) }
 {
-    let directory = &e.directory;
-    let tables = &directory.tables;
-    let kept = &e.sessions;
-    reading::read(
-        &tables.roles,
-        &tables.readers,
-        &tables.mandates,
-        &directory.versions,
-        kept.opened,
-        &kept.counts,
-        &kept.reaches,
-        &kept.versions,
-        &kept.denies,
-        &kept.rolesets,
-        u,
-        session_at(product, s),
-        f,
-        d,
-    )
+    let parts = step::parts_of!(e);
+    verdict::verdict_by(parts.number(product, u, s, f, d))
 }

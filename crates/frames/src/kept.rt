@@ -6,27 +6,12 @@ ghost use Rattle.frames.specs.Stream.{Answers, Feeds};
 use super::lent;
 use super::lent::Fed;
 use model::Engine;
-use step::Parts;
 
 // A piece of input on an engine: `lent::feed` on its parts.
 pub fn feed(engine: &mut Engine, input: &[u8], out: &mut [u8]) -> Fed
     ensures { Feeds input.now out.old out.new engine.new (fed (length out.old) engine.old input.now) result }
 {
-    let mut parts = Parts {
-        roles: &mut engine.directory.tables.roles,
-        readers: &mut engine.directory.tables.readers,
-        forwards: &mut engine.directory.tables.forwards,
-        mandates: &mut engine.directory.tables.mandates,
-        users: &mut engine.directory.versions,
-        version: &mut engine.directory.version,
-        opened: &mut engine.sessions.opened,
-        counts: &mut engine.sessions.counts,
-        roots: &mut engine.sessions.roots,
-        reaches: &mut engine.sessions.reaches,
-        versions: &mut engine.sessions.versions,
-        denies: &mut engine.sessions.denies,
-        rolesets: &mut engine.sessions.rolesets,
-    };
+    let mut parts = step::parts_of!(engine);
     lent::feed(&mut parts, input, out)
 }
 
@@ -34,20 +19,6 @@ pub fn feed(engine: &mut Engine, input: &[u8], out: &mut [u8]) -> Fed
 pub fn answer_frame(engine: &mut Engine, line: &[u8], out: &mut [u8]) -> usize
     ensures { Answers line.now engine.old engine.new out.old out.new result }
 {
-    let mut parts = Parts {
-        roles: &mut engine.directory.tables.roles,
-        readers: &mut engine.directory.tables.readers,
-        forwards: &mut engine.directory.tables.forwards,
-        mandates: &mut engine.directory.tables.mandates,
-        users: &mut engine.directory.versions,
-        version: &mut engine.directory.version,
-        opened: &mut engine.sessions.opened,
-        counts: &mut engine.sessions.counts,
-        roots: &mut engine.sessions.roots,
-        reaches: &mut engine.sessions.reaches,
-        versions: &mut engine.sessions.versions,
-        denies: &mut engine.sessions.denies,
-        rolesets: &mut engine.sessions.rolesets,
-    };
+    let mut parts = step::parts_of!(engine);
     lent::answer_frame(&mut parts, line, out)
 }

@@ -61,6 +61,29 @@ impl Parts<'_> {
     }
 }
 
+// The parts of an engine that is lent whole. A macro, since a function that handed them out would use the
+// engine's `&mut` while they are lent, and is refused.
+#[macro_export]
+macro_rules! parts_of {
+    ($engine:ident) => {
+        $crate::Parts {
+            roles: &mut $engine.directory.tables.roles,
+            readers: &mut $engine.directory.tables.readers,
+            forwards: &mut $engine.directory.tables.forwards,
+            mandates: &mut $engine.directory.tables.mandates,
+            users: &mut $engine.directory.versions,
+            version: &mut $engine.directory.version,
+            opened: &mut $engine.sessions.opened,
+            counts: &mut $engine.sessions.counts,
+            roots: &mut $engine.sessions.roots,
+            reaches: &mut $engine.sessions.reaches,
+            versions: &mut $engine.sessions.versions,
+            denies: &mut $engine.sessions.denies,
+            rolesets: &mut $engine.sessions.rolesets,
+        }
+    };
+}
+
 // Any change of the tables.
 #[tactic(auto, unfolding(model::specs::Calls::step, model::specs::Calls::change))]
 fn change(parts: &mut Parts<'_>, c: Change) -> Answer
