@@ -204,6 +204,15 @@ pub(crate) fn decode(digits: &Digits, line: &[u8]) -> Option<Frame>
 }
 
 // The call that a line is, without its line feed.
+#[tactic(
+    auto,
+    using(
+        protocol::proofs::Laws::longer,
+        crate::proofs::Meaning::line_found,
+        crate::proofs::Meaning::line_longer,
+        crate::proofs::Meaning::line_none
+    )
+)]
 pub fn read_call(line: &[u8]) -> Call
     ensures { result ≡ call_of line.now }
 {
