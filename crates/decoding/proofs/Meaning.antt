@@ -377,7 +377,10 @@ unfolding call_of all_digits frame number number_from rest_digits called called_
 empty_line [] e = refl
 empty_line (b ∷ line) e = absurd (omega arith)
 
-module _ (line : List ℕ) (bytes : Bytes line) {r : Option Frame} (read : r ≡ frame_by high_table low_table (line ++ (line_feed ∷ []))) where
+module _ (line : List ℕ) (bytes : Bytes line) {high low framed : List ℕ} {r : Option Frame} (highs : high ≡ high_table) (lows : low ≡ low_table) (fed : framed ≡ line ++ (line_feed ∷ [])) (given : r ≡ frame_by high low framed) where
+  read : r ≡ frame_by high_table low_table (line ++ (line_feed ∷ []))
+  read = rw (← fed, ← highs, ← lows) given
+
   front : take (length line) (line ++ (line_feed ∷ [])) ≡ line
   front = take_at line (line_feed ∷ []) (length line) refl
 
@@ -391,7 +394,7 @@ module _ (line : List ℕ) (bytes : Bytes line) {r : Option Frame} (read : r ≡
       (sym q ∙ read)
 
   -- no frame is as long as the line
-  pub line_other : ((f : Frame) → r ≡ Some f → f.digits ≡ length line → ⊥) → Unreadable ≡ call_of line
+  line_other : ((f : Frame) → r ≡ Some f → f.digits ≡ length line → ⊥) → Unreadable ≡ call_of line
   line_other n =
       let d : List ℕ = line ++ (line_feed ∷ []) in
       let b : Bytes d = bytes_feed line bytes in
@@ -404,3 +407,9 @@ module _ (line : List ℕ) (bytes : Bytes line) {r : Option Frame} (read : r ≡
       (λ e m. true≢false (sym (here_begins d (length line) b l g i) ∙ e))
       (λ e m. n _ (read ∙ m) (sym (framed_feed d _ (framed_by d b e)) ∙ framed_feed d _ there.0 ∙ sym there.1))
       refl)
+
+  pub line_longer : {f : Frame} → r ≡ Some f → (f.digits ≡ length line → ⊥) → Unreadable ≡ call_of line
+  line_longer {f} q h = line_other (λ g p l. let same : f ≡ g = cc in h (rw same l))
+
+  pub line_none : r ≡ None → Unreadable ≡ call_of line
+  line_none q = line_other (λ g p l. absurd cc)

@@ -165,16 +165,16 @@ module _ (high low s : List ℕ) (n : ℕ) {t : Bool} (is : t ≡ feed_behind s 
   fields_right e read = rw (ended_is high low s n, ← is, e) read
 
 -- what is made of n fields that were read, and that nothing is made of what wasn't
-module _ {A : Type 0} (high low s : List ℕ) (n : ℕ) (make : List ℕ → A) {r : Option (List ℕ)} (read : r ≡ fields_read high low s n) where
-  pub fields_some : {xs : List ℕ} → r ≡ Some xs → Some (make xs) ≡ cond (ended_by high low s n) (Some (make (pairs_at high low s n))) None
-  unfolding fields_read
-  fields_some {xs} e =
-      let k = read_test (ended_by high low s n) (sym e ∙ read) in
-      rw (k.0, k.1)
+pub fields_some : {A : Type 0} (high low s : List ℕ) (n : ℕ) (make : List ℕ → A) {r : Option (List ℕ)} → r ≡ fields_read high low s n → {xs : List ℕ} → r ≡ Some xs
+    → Some (make xs) ≡ cond (ended_by high low s n) (Some (make (pairs_at high low s n))) None
+unfolding fields_read
+fields_some high low s n make read e =
+    let k = read_test (ended_by high low s n) (sym e ∙ read) in
+    rw (k.0, k.1)
 
-  pub fields_none : r ≡ None → None ≡ cond (ended_by high low s n) (Some (make (pairs_at high low s n))) None
-  unfolding fields_read
-  fields_none e = rw (no_test (ended_by high low s n) _ (sym e ∙ read))
+pub fields_none : {A : Type 0} (high low s : List ℕ) (n : ℕ) (good : A) {r : Option (List ℕ)} → r ≡ fields_read high low s n → r ≡ None → None ≡ cond (ended_by high low s n) (Some good) None
+unfolding fields_read
+fields_none high low s n good read e = rw (no_test (ended_by high low s n) _ (sym e ∙ read))
 
 -- ---- a role set, pair by pair
 
@@ -188,10 +188,10 @@ pub sofar_start : (high low s : List ℕ) → SoFar high low s 0 0
 unfolding pairs_number
 sofar_start high low s = record { few = omega arith; made = refl; bound = omega arith }
 
-module _ (high low s : List ℕ) {pairs : List ℕ} (read : Some pairs ≡ pairs_read high low s 8) where
+module _ (high low s : List ℕ) {r : Option (List ℕ)} {pairs : List ℕ} (read : r ≡ pairs_read high low s 8) (was : r ≡ Some pairs) where
   right : (pairs_right high low s 8 ≡ true) × (pairs ≡ pairs_at high low s 8)
   unfolding pairs_read
-  right = read_test (pairs_right high low s 8) read
+  right = read_test (pairs_right high low s 8) (sym was ∙ read)
 
   module _ {set i : ℕ} (known : SoFar high low s i set) (more : i < 8) where
     item : get_or pairs i 0 ≡ pair_at high low s (2 * i)
@@ -364,6 +364,40 @@ two_digits k (inr (inr (inr (inr (inl e))))) = rw e
 two_digits k (inr (inr (inr (inr (inr (inl (p, e))))))) = rw e (conflicting_digits p)
 two_digits k (inr (inr (inr (inr (inr (inr (inl (p, e)))))))) = rw e (show_digits p)
 two_digits k (inr (inr (inr (inr (inr (inr (inr e))))))) = rw e
+
+-- ---- the fields of a kind, from those that were read
+
+module _ (high low s : List ℕ) {kind : Kind} {r : Option (List ℕ)} where
+  module _ {p : Product} (is : kind ≡ Open p) (read : r ≡ fields_read high low s 1) where
+    pub open_some : {xs : List ℕ} → r ≡ Some xs → Some (fields_of 4 (get_or xs 0 0) 0 0 0 0) ≡ fields_by high low s (rest_digits (number_of_kind kind))
+    unfolding fields_by one_field pairs_at
+    open_some e = rw (is, open_digits p) (fields_some high low s 1 (λ xs. fields_of 4 (get_or xs 0 0) 0 0 0 0) read e)
+
+    pub open_none : r ≡ None → None ≡ fields_by high low s (rest_digits (number_of_kind kind))
+    unfolding fields_by one_field
+    open_none e = rw (is, open_digits p) (fields_none high low s 1 (fields_of 4 (pair_at high low s 0) 0 0 0 0) read e)
+
+  module _ (is : HasTwo kind) (read : r ≡ fields_read high low s 2) where
+    pub two_some : {xs : List ℕ} → r ≡ Some xs → Some (fields_of 6 (get_or xs 0 0) (get_or xs 1 0) 0 0 0) ≡ fields_by high low s (rest_digits (number_of_kind kind))
+    unfolding fields_by two_fields pairs_at
+    two_some e = rw (two_digits kind is) (fields_some high low s 2 (λ xs. fields_of 6 (get_or xs 0 0) (get_or xs 1 0) 0 0 0) read e)
+
+    pub two_none : r ≡ None → None ≡ fields_by high low s (rest_digits (number_of_kind kind))
+    unfolding fields_by two_fields
+    two_none e = rw (two_digits kind is) (fields_none high low s 2 (fields_of 6 (pair_at high low s 0) (pair_at high low s 2) 0 0 0) read e)
+
+  module _ {p : Product} (is : kind ≡ Read p) (read : r ≡ fields_read high low s 4) where
+    pub read_some : {xs : List ℕ} → r ≡ Some xs → ◌≡◌ {A = Option Rest} (Some (record { digits = 10; fields = record { numbers = xs; chosen = 0 } })) (fields_by high low s (rest_digits (number_of_kind kind)))
+    unfolding fields_by four_fields pairs_at
+    read_some e = rw (is, read_digits p) (fields_some high low s 4 (λ xs. record { digits = 10; fields = record { numbers = xs; chosen = 0 } }) read e)
+
+    pub read_none : r ≡ None → None ≡ fields_by high low s (rest_digits (number_of_kind kind))
+    unfolding fields_by four_fields
+    read_none e = rw (is, read_digits p) (fields_none high low s 4 (fields_of 10 (pair_at high low s 0) (pair_at high low s 2) (pair_at high low s 4) (pair_at high low s 6) 0) read e)
+
+pub add_some : (high low s : List ℕ) {kind : Kind} {p : Product} → kind ≡ Add p → {rest : Option Rest} → rest ≡ addition high low s → rest ≡ fields_by high low s (rest_digits (number_of_kind kind))
+unfolding fields_by
+add_some high low s {p = p} is e = rw (is, add_digits p) e
 
 -- ---- a frame from the fields that were read
 

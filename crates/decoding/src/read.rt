@@ -31,6 +31,7 @@ struct Rest {
 }
 
 // The number of the two digits at a place.
+#[tactic(auto, unfolding(crate::specs::Fields::pair_at, crate::specs::Fields::pair_read))]
 fn two(digits: &Digits, s: &[u8], at: usize) -> Option<usize>
     requires { at + 2 ≤ length s.now }
     ensures { result ≡ pair_read digits.now.high digits.now.low s.now at }
@@ -39,6 +40,13 @@ fn two(digits: &Digits, s: &[u8], at: usize) -> Option<usize>
 }
 
 // The numbers of the first N pairs.
+#[tactic(
+    auto,
+    using(
+        crate::proofs::Reading::pairs_wrong,
+        crate::proofs::Reading::pairs_all
+    )
+)]
 fn pairs<const N: usize>(digits: &Digits, s: &[u8]) -> Option<[usize; N]>
     requires { 2 * N ≤ length s.now }
     ensures { result ≡ pairs_read digits.now.high digits.now.low s.now N }
@@ -70,6 +78,13 @@ fn fields<const N: usize>(digits: &Digits, s: &[u8]) -> Option<[usize; N]>
 }
 
 // A role set of sixteen digits, two at a time.
+#[tactic(
+    auto,
+    using(
+        crate::proofs::Reading::set_none,
+        crate::proofs::Reading::sofar_start
+    )
+)]
 fn role_set(digits: &Digits, s: &[u8]) -> Option<u64>
     requires { 16 ≤ length s.now }
     ensures { result ≡ chosen_set digits.now.high digits.now.low s.now }
@@ -110,6 +125,17 @@ fn fields_and_set(digits: &Digits, s: &[u8]) -> Option<Rest>
 }
 
 // The fields of a frame of this kind, of whose rest the input is.
+#[tactic(
+    auto,
+    using(
+        crate::proofs::Reading::open_none,
+        crate::proofs::Reading::open_some,
+        crate::proofs::Reading::two_none,
+        crate::proofs::Reading::two_some,
+        crate::proofs::Reading::read_none,
+        crate::proofs::Reading::add_some
+    )
+)]
 fn fields_of(digits: &Digits, s: &[u8], kind: Kind) -> Option<Rest>
     ensures { result ≡ fields_by digits.now.high digits.now.low s.now (rest_digits (number_of_kind kind)) }
 {
@@ -153,6 +179,16 @@ fn fields_of(digits: &Digits, s: &[u8], kind: Kind) -> Option<Rest>
 }
 
 // The frame that an input begins with.
+#[tactic(
+    auto,
+    using(
+        crate::proofs::Reading::frame_short,
+        crate::proofs::Reading::frame_wrong,
+        crate::proofs::Reading::frame_unknown,
+        crate::proofs::Reading::frame_none,
+        crate::proofs::Reading::frame_some
+    )
+)]
 pub(crate) fn decode(digits: &Digits, line: &[u8]) -> Option<Frame>
     ensures { result ≡ frame_by digits.now.high digits.now.low line.now }
 {
@@ -168,6 +204,15 @@ pub(crate) fn decode(digits: &Digits, line: &[u8]) -> Option<Frame>
 }
 
 // The call that a line is, without its line feed.
+#[tactic(
+    auto,
+    using(
+        protocol::proofs::Laws::longer,
+        crate::proofs::Meaning::line_found,
+        crate::proofs::Meaning::line_longer,
+        crate::proofs::Meaning::line_none
+    )
+)]
 pub fn read_call(line: &[u8]) -> Call
     ensures { result ≡ call_of line.now }
 {

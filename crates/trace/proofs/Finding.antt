@@ -1,9 +1,11 @@
 -- The line that begins at a position, found by its line feed, and where it ends.
 -- Assumes nothing.
 use Prim.Native.Nat.{ℕ, suc, min, ◌+◌, ◌-◌, ◌^◌, ◌≤◌, ◌<◌}
-use mathlib.Core.Path.{◌≡◌, sym, ◌∙◌}
+use mathlib.Core.Path.{◌≡◌, sym, ap, ◌∙◌}
 use mathlib.Core.List.{List, []}
 use native.Mathlib.Decide.{dec_lt}
+use mir.Syntax.{w64}
+use mir.Val.{Fits}
 use native.Mathlib.Omega.{arith}
 use lib.ListN.{length, take, drop, length-take, length-drop, drop_of_length-le}
 use lib.Seq.{take_all}
@@ -47,5 +49,5 @@ module _ (s : List ℕ) (at : ℕ) where
   line_short = simp (length-take, length-drop) (omega arith)
 
   -- where a line ends is a position too
-  pub line_fits : length s < 2 ^ 64 → at < 2 ^ 64 → at + length (line_at s at) < 2 ^ 64
-  line_fits k m = omega (arith, line_short)
+  pub line_fits : {line : List ℕ} → line ≡ line_at s at → length s < 2 ^ 64 → at < 2 ^ 64 → Fits w64 (at + length line)
+  line_fits {line} p k m = record { fits = omega (arith, line_short, ap (length {A = ℕ}) p) }

@@ -30,6 +30,7 @@ impl<'a> Trace<'a> {
     }
 
     // Hands out the next unread line, and has read it.
+    #[tactic(auto, using(crate::proofs::Finding::line_fits))]
     pub fn next(&mut self) -> &'a [u8]
         ensures { (result.now ≡ line_at self.old.text.now self.old.at) × (self.new.text ≡ self.old.text) × (self.new.at ≡ self.old.at + length result.now) }
     {
