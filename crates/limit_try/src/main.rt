@@ -201,28 +201,17 @@ fn answered(rt: HostRuntime, v: Verdict) {
 
 // An answer that shows no constraint.
 fn unshown(rt: HostRuntime, a: Answer) {
-    let none = Constraint {
-        version: 0,
-        deny: 0,
-        roles: [0; Engine::FLOWS],
-    };
-    line(rt, a, none);
+    line(rt, a, Constraint::NONE);
 }
 
 fn shown(rt: HostRuntime, x: Shown) {
     line(rt, x.answer, x.constraint);
 }
 
+// Writes the line of an answer. Where it can't be written there is nobody to tell.
 fn line(rt: HostRuntime, a: Answer, c: Constraint) {
     let mut out = [0u8; LONGEST];
     if let Some(n) = encoding::answer_line(a, c, &mut out) {
-        write_first(rt, &out, n);
-    }
-}
-
-// Writes the first n bytes. Where they can't be written there is nobody to tell.
-fn write_first(rt: HostRuntime, bytes: &[u8], n: usize) {
-    if let Some(bytes) = bytes.get(..n) {
-        let _ = rt.write_all(bytes);
+        let _ = rt.write_all(streams::first(n, &out));
     }
 }

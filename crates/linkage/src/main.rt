@@ -18,8 +18,7 @@ struct Shown {
 // Writes the first n bytes, and counts the lines that are written whole. Where not all are written it
 // says so.
 fn show(rt: HostRuntime, bytes: &[u8], n: usize, lines: u64) -> Shown {
-    let end = streams::within(n, bytes);
-    let answers = &bytes[..end];
+    let answers = streams::first(n, bytes);
     let mut output = rt.stdout();
     let written = streams::write_all(rt, &mut output, answers);
     let lines = streams::lines_and(lines, &answers[..written.end]);

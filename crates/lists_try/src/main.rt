@@ -18,8 +18,7 @@ const ROOM: usize = LONGEST + 45;
 
 // Writes the first n bytes. Where they can't be written there is nobody to tell.
 fn show(rt: HostRuntime, bytes: &[u8], n: usize) {
-    let end = streams::within(n, bytes);
-    let _ = rt.write_all(&bytes[..end]);
+    let _ = rt.write_all(streams::first(n, bytes));
 }
 
 // Reads behind the first n bytes of a buffer, and gives the place behind what is read. A read that fails
@@ -64,28 +63,14 @@ fn run(rt: HostRuntime, file: &mut File) {
     end(rt, len);
 }
 
-// Runs the list that argument i names, and gives whether there is such an argument.
-// Kept beside its like in `traces_try`: one function for both would have to be public and to take a
-// closure, and no public function has a `requires`, which such a one needs.
-fn run_named(rt: HostRuntime, i: usize) -> bool {
-    let mut path = io::buffer();
-    let Some(length) = streams::argument(rt, i, &mut path) else {
-        return false;
-    };
-    match streams::open(rt, &path[..length]) {
-        Ok(mut file) => run(rt, &mut file),
-        Err(failure) => {
-            let mut text = io::buffer();
-            streams::say_of(rt, &mut text, &path[..length], failure);
-        }
-    }
-    true
-}
-
 fn main(rt: HostRuntime) {
+    let mut path = io::buffer();
     for i in 1..usize::MAX {
-        if !run_named(rt, i) {
+        let Some(length) = streams::argument(rt, i, &mut path) else {
             break;
+        };
+        if let Some(mut file) = streams::open_or_say(rt, &path[..length]) {
+            run(rt, &mut file);
         }
     }
 }

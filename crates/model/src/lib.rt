@@ -55,6 +55,15 @@ pub struct Constraint {
     pub roles: [u64; Engine::FLOWS],
 }
 
+impl Constraint {
+    // What stands beside an answer that shows none.
+    pub const NONE: Constraint = Constraint {
+        version: 0,
+        deny: 0,
+        roles: [0; Engine::FLOWS],
+    };
+}
+
 // A call's answer, and the engine after it.
 #[derive(Clone, Copy)]
 pub struct Changed {

@@ -23,8 +23,7 @@ use taking::{BUFFER, Input};
 
 // How many lines are carried out: those before, and one for each of the answers in the first n bytes.
 fn carried_out(lines: u64, answers: &[u8], n: usize) -> u64 {
-    let end = streams::within(n, answers);
-    streams::lines_and(lines, &answers[..end])
+    streams::lines_and(lines, streams::first(n, answers))
 }
 
 // Carries out all frames of standard input. Their answers are dropped. Whether the input was read to its

@@ -1,21 +1,20 @@
--- Counting line feeds, byte by byte and block by block; putting a sentence together, part by part; what stays before a part that is lent, and what is read into it.
+-- Counting line feeds, block by block; putting a sentence together, part by part; what is read into a part that is lent.
 -- Assumes nothing.
-use Prim.Native.Nat.{ℕ, zero, suc, ◌+◌, ◌-◌, ◌≤◌, ◌<◌, min}
+use Prim.Native.Nat.{ℕ, zero, suc, ◌+◌, ◌-◌, ◌≤◌, ◌<◌, ◌^◌, min}
 use mathlib.Core.Path.{◌≡◌, refl, sym, ap, ◌∙◌}
 use mathlib.Core.Bool.{Bool, true, false, cond}
 use mathlib.Core.List.{List, [], ◌∷◌, ◌++◌, append_assoc}
-use native.Mathlib.Numerals.{add-one}
 use native.Mathlib.Omega.{arith}
 use lib.Dec.{eqb}
-use lib.ListN.{length, get_or, take, drop, take-append-drop, length-append, length-take, length-drop}
-use lib.Seq.{drop-cons, drop-drop, take-nil, take_at, drop_at, paste}
+use lib.ListN.{length, take, drop, take-append-drop, length-append, length-take, length-drop}
+use lib.Seq.{drop-drop, take-nil, take_at, drop_at, paste}
 use borrow.Author.Tests.{eq-eqb, ne_eqb}
-use borrow.Rule.Slice.PartMut.{put_mid, take_put}
 use Rattle.io.specs.Digits.{last_digits, IsDigitCount}
 use Rattle.std.proofs.Common.{subst}
 use Rattle.std.proofs.BufReadLemmas.{drop-take_min}
 use Rattle.std.proofs.lemmas.List.{nil_from_length, take_rest, take-append-le, take-take}
 use Rattle.std.specs.Prelude.{None, Some}
+use Rattle.std.specs.List.{sum_by, fold}
 use Rattle.std.specs.Io.KnownBytes.{Appends, Consumes}
 use Rattle.std.specs.declared.option.Option.{Option}
 use Rattle.streams.specs.Feeds.{feed, feeds, FeedsMean}
@@ -51,44 +50,31 @@ unfolding feeds
 feeds_most [] = omega arith
 feeds_most (b ∷ bs) = let l : feeds bs ≤ length bs = feeds_most bs in omega (arith, feed_most b)
 
+feeds_from : (n : ℕ) (text : List ℕ) → fold (λ a x. a + feed x) n text ≡ n + feeds text
+unfolding feeds
+feeds_from n [] = omega arith
+feeds_from n (b ∷ bs) = feeds_from (n + feed b) bs ∙ omega arith
+
+-- how many there are is the sum of what each byte counts
+pub feeds_sum : (text : List ℕ) → sum_by feed text ≡ feeds text
+feeds_sum text = feeds_from 0 text ∙ omega arith
+
 feeds_append : (xs ys : List ℕ) → feeds (xs ++ ys) ≡ feeds xs + feeds ys
 unfolding feeds
 feeds_append [] ys = omega arith
 feeds_append (b ∷ bs) ys = let e : feeds (bs ++ ys) ≡ feeds bs + feeds ys = feeds_append bs ys in omega arith
 
--- n line feeds are counted, and this of the text is left
-pub record Counted (text : List ℕ) (n : ℕ) (rest : List ℕ) : Type 0 where
-  pub holds : n + feeds rest ≡ feeds text
+-- what a block of at most 128 bytes counts fits a byte
+pub block_fits : (block : List ℕ) → length block ≤ 128 → sum_by feed block < 2 ^ 8
+block_fits block l = rw (feeds_sum block) (omega (arith, feeds_most block))
 
-pub counted_start : (text : List ℕ) → Counted text 0 text
-counted_start text = record { holds = omega arith }
+-- a block and what is left behind it
+pub feeds_block : (block rest left : List ℕ) → left ≡ block ++ rest → feeds left ≡ sum_by feed block + feeds rest
+feeds_block block rest left e = ap feeds e ∙ feeds_append block rest ∙ ap (λ n. n + feeds rest) (sym (feeds_sum block))
 
-module _ {text : List ℕ} {n i : ℕ} (g : Counted text n (drop i text)) (l : i < length text) where
-  -- one byte more
-  here : feeds (drop i text) ≡ feed (get_or text i 0) + feeds (drop (i + 1) text)
-  unfolding feeds
-  here = rw (add-one i, drop-cons text i 0 l)
-
-  pub counted_byte : Counted text (n + feed (get_or text i 0)) (drop (i + 1) text)
-  counted_byte = let e = here in record { holds = omega (arith, g.holds) }
-
-  pub byte_most : n + feed (get_or text i 0) ≤ length text
-  byte_most = let e = here in omega (arith, g.holds, feeds_most text)
-
-module _ {text left : List ℕ} {n : ℕ} (g : Counted text n left) (block rest : List ℕ) (e : left ≡ block ++ rest) where
-  both : feeds left ≡ feeds block + feeds rest
-  both = ap feeds e ∙ feeds_append block rest
-
-  -- a block more
-  pub counted_block : Counted text (n + feeds block) rest
-  counted_block = record { holds = omega (arith, g.holds, both) }
-
-  pub block_most : n + feeds block ≤ length text
-  block_most = omega (arith, g.holds, both, feeds_most text)
-
-pub counted_all : {text rest : List ℕ} {n : ℕ} → Counted text n rest → length rest ≡ 0 → n ≡ feeds text
+pub feeds_none : (rest : List ℕ) → length rest ≡ 0 → feeds rest ≡ 0
 unfolding feeds
-counted_all {rest = rest} g e = let none : feeds rest ≡ 0 = ap feeds (nil_from_length rest e) in omega (arith, g.holds)
+feeds_none rest e = ap feeds (nil_from_length rest e)
 
 -- the first elements of two lists that stand one behind the other
 take_append : (n : ℕ) (xs ys : List ℕ) → take n (xs ++ ys) ≡ take n xs ++ take (n - length xs) ys
@@ -157,14 +143,6 @@ module _ {old before shown behind first second third : List ℕ} {n k from to en
   said f e p q r =
       let g : Begins old ((before ++ shown) ++ behind) third end = begins_more (begins_more (begins_more (begins_empty old) p) q) r in
       record { k = k; fewest = f; begins = rw (← e, ← append_assoc before shown behind) g }
-
--- a list with other elements from a place on has its first elements
-pub stays : (n a k : ℕ) (xs ys : List ℕ) → a ≡ min n (length xs) → length (put_mid a k xs ys) ≡ length xs → take n (put_mid a k xs ys) ≡ take n xs
-stays n a k xs ys e l =
-    let new : List ℕ = put_mid a k xs ys in
-    let to : length (take n new) ≡ a = length-take n new ∙ omega (arith, e, l) in
-    let from : length (take n xs) ≡ a = length-take n xs ∙ sym e in
-    sym (take_count n new) ∙ ap (λ (m : ℕ). take m new) to ∙ take_put a k xs ys (omega (arith, e)) ∙ ap (λ (m : ℕ). take m xs) (sym from) ∙ take_count n xs
 
 -- ---- what is read and written
 

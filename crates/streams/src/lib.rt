@@ -7,7 +7,7 @@
 // reader and a writer whose bytes are known, it is promised that those are the ones in the buffers.
 #![tactic(auto)]
 
-ghost use Rattle.std.specs.Prelude.{◌+◌, ◌≤◌, ◌<◌, min, ◌≡◌, length, take, drop, None, IfOk, IfSome, IsErrAnd, MatchResult};
+ghost use Rattle.std.specs.Prelude.{◌+◌, ◌≤◌, ◌<◌, min, ◌≡◌, ◌^◌, length, sum_by, take, drop, None, IfOk, IfSome, IsErrAnd, MatchResult};
 ghost use Rattle.std.specs.Str.{IsUtf8};
 ghost use Rattle.std.specs.IoError.{error_kind};
 ghost use Rattle.std.specs.Io.{ReadsAtMost};
@@ -51,6 +51,13 @@ pub fn within(n: usize, bytes: &[u8]) -> usize
     n.min(bytes.len())
 }
 
+// The first n bytes, or all where n is more.
+pub fn first(n: usize, bytes: &[u8]) -> &[u8]
+    ensures { result.now ≡ take n bytes.now }
+{
+    &bytes[..within(n, bytes)]
+}
+
 // Hands on why a call failed, but where the call is to be made again. Before one that would have to wait it
 // sleeps for a millisecond, since the descriptor does not.
 fn wait_out(rt: HostRuntime, failure: Error) -> Result<(), Error> {
@@ -80,6 +87,7 @@ fn read_some<R: Read>(rt: HostRuntime, source: &mut R, bytes: &mut [u8]) -> Resu
 
 // Reads from a source behind the first n bytes of a buffer, which stay, and gives the place behind what is
 // read. At the end of the input that is the place where it was. A read that failed has read nothing.
+#[tactic(auto, using(crate::proofs::Laws::got_in))]
 pub fn read_behind<R: Read>(
     rt: HostRuntime,
     source: &mut R,
@@ -98,6 +106,7 @@ pub fn read_behind<R: Read>(
 }
 
 // Reads from a source until the bytes are full, the input ends, or it can't be read.
+#[tactic(auto, using(crate::proofs::Laws::read_on))]
 pub fn fill<R: Read>(rt: HostRuntime, source: &mut R, bytes: &mut [u8]) -> Progress
     ensures prefix_len { IsPrefixLen result.end bytes.new }
     ensures consumed { Consumes (R.remaining source.old) (R.remaining source.new) (take result.end bytes.new) }
@@ -121,6 +130,7 @@ pub fn fill<R: Read>(rt: HostRuntime, source: &mut R, bytes: &mut [u8]) -> Progr
 
 // One write, from a place on, and the place behind what is written. A write that takes nothing is the
 // last, since it would be made for ever.
+#[tactic(auto, using(crate::proofs::Laws::put_out))]
 fn write_some<W: Write>(
     rt: HostRuntime,
     output: &mut W,
@@ -178,17 +188,14 @@ fn feed(byte: u8) -> u8
 
 // How many line feeds a block has.
 fn feeds_in(block: &[u8]) -> u8
-    requires { length block.now ≤ 128 }
-    ensures { result ≡ feeds block.now }
+    requires { sum_by Feeds·feed block.now < 2 ^ 8 }
+    ensures { result ≡ sum_by Feeds·feed block.now }
 {
-    let mut n = 0;
-    for byte in block {
-        n += feed(*byte);
-    }
-    n
+    block.iter().map(|byte| feed(*byte)).sum()
 }
 
 // How many whole lines a text has: its line feeds.
+#[tactic(auto, using(crate::proofs::Laws::feeds_block, crate::proofs::Laws::feeds_none, crate::proofs::Laws::feeds_most, crate::proofs::Laws::block_fits))]
 pub fn lines(text: &[u8]) -> usize
     ensures { result ≡ feeds text.now }
 {
@@ -241,12 +248,12 @@ fn say(rt: HostRuntime, what: &[u8], failure: Error) {
     let _ = write!(reason, "{failure}");
     let end = reason.position() as usize;
     let bytes = reason.into_inner();
-    let filled = within(end, &bytes);
-    let words = words_end(failure, &bytes[..filled]);
+    let written = first(end, &bytes);
+    let words = words_end(failure, written);
     let errors = rt.stderr();
     let _ = errors.write_all(what);
     let _ = errors.write_all(b": ");
-    let _ = errors.write_all(&bytes[..words]);
+    let _ = errors.write_all(&written[..words]);
     let _ = errors.write_all(b"\n");
 }
 
@@ -319,5 +326,19 @@ pub fn open(rt: HostRuntime, path: &[u8]) -> Result<File, Error>
     match str::from_utf8(path) {
         Ok(path) => File::open(&rt, path),
         Err(_) => Err(Error::from(ErrorKind::InvalidFilename)),
+    }
+}
+
+// Opens the file that a path names. Where it can't be opened, that is said: the path, and the reason.
+pub fn open_or_say(rt: HostRuntime, path: &[u8]) -> Option<File>
+    ensures { ¬ (IsUtf8 path.now) → result ≡ None }
+{
+    match open(rt, path) {
+        Ok(file) => Some(file),
+        Err(failure) => {
+            let mut text = io::buffer();
+            say_of(rt, &mut text, path, failure);
+            None
+        }
     }
 }

@@ -75,9 +75,7 @@ impl Input {
     pub fn part(&self) -> &[u8]
         ensures { result.now ≡ between self.now.bytes self.now.held.from self.now.held.filled }
     {
-        let bytes: &[u8] = &self.bytes;
-        let end = streams::within(self.held.filled, bytes);
-        let filled = &bytes[..end];
+        let filled = streams::first(self.held.filled, &self.bytes);
         let from = streams::within(self.held.from, filled);
         &filled[from..]
     }

@@ -15,32 +15,16 @@ fn show(rt: HostRuntime, run: &[u8]) {
     let _ = rt.write_all(line.as_bytes());
 }
 
-// Tries the run in the file that argument i names, and gives whether there is such an argument.
-// Kept beside its like in `lists_try`: one function for both would have to be public and to take a
-// closure, and no public function has a `requires`, which such a one needs.
-fn try_named(rt: HostRuntime, file: &mut [u8], i: usize) -> bool {
+// Tries the runs in all files that are named.
+fn try_stored(rt: HostRuntime, file: &mut [u8]) {
     let mut path = io::buffer();
-    let Some(length) = streams::argument(rt, i, &mut path) else {
-        return false;
-    };
-    match streams::open(rt, &path[..length]) {
-        Ok(mut source) => {
+    for i in 1..usize::MAX {
+        let Some(length) = streams::argument(rt, i, &mut path) else {
+            break;
+        };
+        if let Some(mut source) = streams::open_or_say(rt, &path[..length]) {
             let read = streams::fill(rt, &mut source, file);
             show(rt, &file[..read.end]);
-        }
-        Err(failure) => {
-            let mut text = io::buffer();
-            streams::say_of(rt, &mut text, &path[..length], failure);
-        }
-    }
-    true
-}
-
-// Tries the runs in all files.
-fn try_stored(rt: HostRuntime, file: &mut [u8]) {
-    for i in 1..usize::MAX {
-        if !try_named(rt, file, i) {
-            break;
         }
     }
 }
@@ -70,8 +54,7 @@ fn spoil(file: &mut [u8]) {
 
 // Tries the first n bytes.
 fn try_first(rt: HostRuntime, file: &[u8], n: usize) {
-    let end = streams::within(n, file);
-    show(rt, &file[..end]);
+    show(rt, streams::first(n, file));
 }
 
 // Tries made runs: with one byte less than a run may have, with as many, with one more; and the last two

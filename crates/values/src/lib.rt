@@ -56,13 +56,7 @@ pub fn shown(kept: Sessions, s: usize, f: usize) -> Shown
     let answer = sessions::show(kept.opened, &kept.counts, s, f);
     let constraint = match answer {
         Answer::Constraint { .. } => constraint_at(kept, s, f),
-        _ => {
-            Constraint {
-                version: 0,
-                deny: 0,
-                roles: [0; Engine::FLOWS],
-            }
-        }
+        _ => Constraint::NONE,
     };
     Shown { answer, constraint }
 }
