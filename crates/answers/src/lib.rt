@@ -2,7 +2,7 @@
 // constraint it shows.
 #![tactic(auto)]
 
-ghost use Rattle.std.specs.Prelude.{◌≡◌, ◌<◌};
+ghost use Rattle.std.specs.Prelude.{◌≡◌, ◌<◌, cond, Some, None, IfSome};
 ghost use Rattle.model.specs.State.{place_count};
 ghost use Rattle.model.specs.Calls.{number_of, returned, verdict_of};
 ghost use Rattle.answers.specs.Answers.{has_place, shown_place};
@@ -28,32 +28,21 @@ pub fn returned(a: Answer) -> u64
     }
 }
 
-// Whether the answer shows no constraint, or that of a flow that has a place. Its session has its number
-// among those of both products.
-#[tactic(auto, unfolding(crate::specs::Answers::has_place))]
-pub fn has_place(a: Answer) -> bool
-    ensures { result ≡ has_place a }
-{
-    match a {
-        Answer::Constraint { session, flow } => {
-            session < Engine::ALL_SESSIONS && flow < Engine::FLOWS
-        }
-        _ => true,
-    }
-}
-
-// The place of the flow that an answer shows, and 0 where it shows none.
-// Kept: no `Option`, since a line is written from the parts of some place, whatever it shows.
-#[tactic(auto, unfolding(crate::specs::Answers::shown_place, model::specs::State::place))]
-pub fn shown_place(a: Answer) -> usize
-    ensures value { result ≡ shown_place a }
-    ensures upper_bound { result < place_count }
+// The place of the flow whose constraint an answer shows; none where that flow has no place. Its session has
+// its number among those of both products.
+// Kept: place 0 for an answer that shows no constraint, since a line is written from the parts of some place,
+// whatever it shows.
+#[tactic(auto, unfolding(crate::specs::Answers::has_place, crate::specs::Answers::shown_place, model::specs::State::place))]
+pub fn place_to_show(a: Answer) -> Option<usize>
+    ensures value { result ≡ cond (has_place a) (Some (shown_place a)) None }
+    ensures upper_bound { IfSome result (λ k. k < place_count) }
 {
     match a {
         Answer::Constraint { session, flow }
             if session < Engine::ALL_SESSIONS && flow < Engine::FLOWS => {
-            session * Engine::FLOWS + flow
+            Some(session * Engine::FLOWS + flow)
         }
-        _ => 0,
+        Answer::Constraint { .. } => None,
+        _ => Some(0),
     }
 }

@@ -1,17 +1,18 @@
 -- The laws of what is written: how two writes make one, what a loop over digits keeps, and the parts of a line.
 -- Nothing here has to be read to understand a contract.
 -- Assumes nothing.
-use Prim.Native.Nat.{ℕ, zero, suc, ◌+◌, ◌-◌, ◌*◌, ◌/◌, ◌%◌, ◌≤◌, ◌<◌}
+use Prim.Native.Nat.{ℕ, zero, suc, ◌+◌, ◌*◌, ◌/◌, ◌%◌, ◌≤◌, ◌<◌}
 use mathlib.Core.Path.{◌≡◌, refl, sym, ap, ◌∙◌, subst}
 use mathlib.Core.Bool.{Bool, true, ◌&&◌}
 use mathlib.Core.List.{List, [], ◌∷◌, ◌++◌, append_assoc, append-nil}
-use native.Mathlib.Nat.{add-zero, zero-add}
+use native.Mathlib.Nat.{add-zero, zero-add, zero-mul}
 use native.Mathlib.Numerals.{add-one}
 use native.Mathlib.Omega.{arith}
 use lib.Dec.{ltb}
 use lib.ListN.{length, get_or, take, drop, set, replicate, length-append, length-take, length-drop, length-set, take-append-drop}
-use lib.Seq.{get_or-take, get_or-drop, sets, length-take-le, take_at, drop_at, take-suc, drop-drop, drop-length, set_at}
+use lib.Seq.{get_or-take, get_or-drop, length-take-le, take_at, drop_at, take-suc, drop-drop, drop-length, set_at}
 use borrow.Author.Tests.{ltb-true}
+use Rattle.std.specs.Simd.{first_chunks}
 use Rattle.sets.proofs.Laws.{and_both}
 use Rattle.model.specs.declared.Constraint.{Constraint}
 use Rattle.model.specs.declared.Sessions.{Sessions}
@@ -117,10 +118,12 @@ digits_done {old} {at} {n} {v} {new} {x} g l = record {
 
 -- ---- lines
 
--- a role set more
-pub wrote_set : {a b c : List ℕ} {i j k : ℕ} (n : ℕ) (s : List ℕ) → Wrote a b i j (role_sets n s) → Wrote b c j k (hex set_digits (get_or s n 0)) → Wrote a c i k (role_sets (n + 1) s)
+-- a role set more, of the first n
+pub wrote_set : {a b c : List ℕ} {at j k : ℕ} (i n : ℕ) (s : List ℕ) → i < length (take n s) → Wrote a b at j (role_sets i s) → Wrote b c j k (hex set_digits (get_or (take n s) i 0)) → Wrote a c at k (role_sets (i + 1) s)
 unfolding role_sets
-wrote_set n s first second = rw (add-one n) (wrote_both first second)
+wrote_set i n s l first second =
+    let few : i < n = omega (arith, l, length-take n s) in
+    rw (add-one i) (wrote_both first (wrote_same (ap (hex set_digits) (get_or-take n s i 0 few)) second))
 
 -- where the values of an answer end
 pub wrote_values : {old new : List ℕ} {at next : ℕ} (a : Answer) (c : Constraint) → shown_sets a ≤ flow_count → Wrote old new at next (values a c) → next ≤ at + (version_digits + set_digits * (1 + flow_count))
@@ -163,10 +166,6 @@ unfolding role_sets
 role_sets_same zero a b h = refl
 role_sets_same (suc n) a b h = rw (role_sets_same n a b (λ i l. h i (omega arith)), h n (omega arith))
 
--- a part of role sets is what is written of them all
-pub part_written : (n : ℕ) (sets : List ℕ) → n + 1 ≤ length sets → role_sets (length (take (n + 1) sets)) (take (n + 1) sets) ≡ role_sets (suc n) sets
-part_written n sets l = rw (length-take-le (n + 1) sets l, add-one n) (role_sets_same (suc n) (take (suc n) sets) sets (λ i h. get_or-take (suc n) sets i 0 h))
-
 part_sets : (S : Sessions) (s f i : ℕ) → i < flow_count → get_or (take flow_count (drop (place s f * flow_count) S.rolesets)) i 0 ≡ get_or (constraint_at S s f).roles i 0
 unfolding constraint_at roleset_at set_place
 part_sets S s f i l =
@@ -186,12 +185,13 @@ line_shown S (Answer-as-Constraint s f) p =
     rw (q.0, q.1, role_sets_same (suc f) (take flow_count (drop (place s f * flow_count) S.rolesets)) (constraint_at S s f).roles (λ i l. part_sets S s f i (omega arith)))
 line_shown S (Refused why) p = refl
 
-eight : (k : ℕ) → k * flow_count + flow_count - k * flow_count ≡ flow_count
-eight k = omega arith
-
--- a part of as many role sets as a constraint has
-pub part_long : (k : ℕ) (xs : List ℕ) → k * flow_count + flow_count ≤ length xs → flow_count ≤ length (take (k * flow_count + flow_count - k * flow_count) (drop (k * flow_count) xs))
-part_long k xs l = simp (length-take, length-drop) (omega arith)
+-- which part the kth of the chunks is
+chunk_at : (n c k : ℕ) (xs : List ℕ) → k < c → get_or (first_chunks n c xs) k [] ≡ take n (drop (k * n) xs)
+chunk_at n zero k xs l = absurd (omega (arith, l))
+chunk_at n (suc c) zero xs l = rw (zero-mul n) refl
+chunk_at n (suc c) (suc k) xs l =
+    let e : n + k * n ≡ suc k * n = omega arith in
+    chunk_at n c k (drop n xs) (omega (arith, l)) ∙ ap (take n) (drop-drop (k * n) n xs ∙ ap (λ (m : ℕ). drop m xs) e)
 
 -- an answer with a place shows no more role sets than a constraint has
 pub place_few : (a : Answer) → has_place a ≡ true → shown_sets a ≤ flow_count
@@ -203,7 +203,7 @@ place_few Granted p = omega arith
 place_few (Answer-as-Constraint s f) p = ltb-true f flow_count (and_both (ltb s all_sessions) (ltb f flow_count) p).1
 place_few (Refused why) p = omega arith
 
-pub puts_answer : (S : Sessions) (a : Answer) {old new : List ℕ} {at next : ℕ} (k : ℕ) → room_at old at ≡ true → has_place a ≡ true → k ≡ shown_place a
-    → Wrote old new at next (line_of a (constraint_of (get_or S.versions k 0) (get_or S.denies k 0) (take (k * flow_count + flow_count - k * flow_count) (drop (k * flow_count) S.rolesets))))
+pub puts_answer : (S : Sessions) (a : Answer) {old new : List ℕ} {at next : ℕ} {sets : List (List ℕ)} (n k : ℕ) → room_at old at ≡ true → has_place a ≡ true → k ≡ shown_place a → k < n → sets ≡ first_chunks flow_count n S.rolesets
+    → Wrote old new at next (line_of a (constraint_of (get_or S.versions k 0) (get_or S.denies k 0) (get_or sets k [])))
     → Puts (room_at old at && has_place a) old new at next (line_of a (shown_in S a))
-puts_answer S a k room has e w = puts_line (rw (room, has)) (wrote_same (rw (eight k, e) (line_shown S a has)) w)
+puts_answer S a n k room has e l parts w = puts_line (rw (room, has)) (wrote_same (rw (parts, chunk_at flow_count n k S.rolesets l, e) (line_shown S a has)) w)

@@ -24,7 +24,7 @@ use protocol::{LONGEST, SET_DIGITS, VERSION_DIGITS};
 struct Shown<'a> {
     version: Version,
     deny: u64,
-    roles: &'a [u64],
+    roles: &'a [u64; Engine::FLOWS],
 }
 
 // How many digits a line begins with, and a field has.
@@ -34,6 +34,7 @@ const FIELD_DIGITS: usize = 2;
 // it is compiled, no loop is left of it.
 // Kept: a place and the buffer are handed on, here and below. A struct that held both would have to
 // promise in each method that it still lends the same buffer.
+// Kept: an index, since of the bytes that `iter_mut` with `rev` hands out nothing is known after the loop.
 #[tactic(auto, using(crate::proofs::Writing::digits_start, crate::proofs::Writing::digits_step))]
 fn write_hex<const N: usize>(v: u64, out: &mut [u8], at: usize) -> usize
     requires { at + N ≤ length out.old }
@@ -56,14 +57,14 @@ fn write_feed(out: &mut [u8], at: usize) -> usize
     at + 1
 }
 
-// These role sets, one after the other.
+// The first n of these role sets, one after the other.
 #[tactic(auto, using(crate::proofs::Writing::wrote_nothing, crate::proofs::Writing::wrote_length, protocol::proofs::Laws::role_sets_length), unfolding(protocol::specs::Lines::role_sets))]
-fn write_sets(sets: &[u64], out: &mut [u8], at: usize) -> usize
-    requires { at + set_digits * length sets.now ≤ length out.old }
-    ensures { Wrote out.old out.new at result (role_sets (length sets.now) sets.now) }
+fn write_sets(sets: &[u64; Engine::FLOWS], n: usize, out: &mut [u8], at: usize) -> usize
+    requires { (n ≤ flow_count) × (at + set_digits * n ≤ length out.old) }
+    ensures { Wrote out.old out.new at result (role_sets n sets.now) }
 {
     let mut next = at;
-    for set in sets {
+    for set in &sets[..n] {
         next = write_hex::<SET_DIGITS>(*set, out, next);
     }
     next
@@ -72,12 +73,12 @@ fn write_sets(sets: &[u64], out: &mut [u8], at: usize) -> usize
 // A flow's constraint, with the role sets up to its own.
 #[tactic(auto, using(crate::proofs::Writing::wrote_hex))]
 fn write_constraint(shown: Shown, flow: usize, out: &mut [u8], at: usize) -> usize
-    requires { (flow < length shown.roles.now) × (at + (version_digits + set_digits + set_digits * suc flow) ≤ length out.old) }
-    ensures { Wrote out.old out.new at result (hex version_digits shown.entry.version ++ (hex set_digits shown.entry.deny ++ role_sets (suc flow) shown.entry.roles.now)) }
+    requires { (flow < flow_count) × (at + (version_digits + set_digits + set_digits * suc flow) ≤ length out.old) }
+    ensures { Wrote out.old out.new at result (hex version_digits shown.entry.version ++ (hex set_digits shown.entry.deny ++ role_sets (flow + 1) shown.entry.roles.now)) }
 {
     let next = write_hex::<VERSION_DIGITS>(shown.version as u64, out, at);
     let next = write_hex::<SET_DIGITS>(shown.deny, out, next);
-    write_sets(&shown.roles[..flow + 1], out, next)
+    write_sets(shown.roles, flow + 1, out, next)
 }
 
 // A new flow's number, reach and version.
@@ -94,7 +95,7 @@ fn write_flow(number: usize, reach: u32, version: Version, out: &mut [u8], at: u
 // What follows the first two digits of a line; the constraint is that of the flow that the answer shows.
 #[tactic(auto, using(crate::proofs::Writing::wrote_nothing, crate::proofs::Writing::shown_below), unfolding(protocol::specs::Lines::values))]
 fn write_values(a: Answer, shown: Shown, out: &mut [u8], at: usize) -> usize
-    requires a_bound { (shown_sets a ≤ flow_count) × (flow_count ≤ length shown.roles.now) }
+    requires a_bound { shown_sets a ≤ flow_count }
     requires flow_count_in_bounds { at + (version_digits + set_digits * (1 + flow_count)) ≤ length out.old }
     ensures { Wrote out.old out.new at result (values a (constraint_of shown.entry.version shown.entry.deny shown.entry.roles.now)) }
 {
@@ -114,7 +115,7 @@ fn write_values(a: Answer, shown: Shown, out: &mut [u8], at: usize) -> usize
 // The line of an answer, from a place on that leaves room for every line.
 #[tactic(auto, using(crate::proofs::Writing::wrote_hex))]
 fn write_line(a: Answer, shown: Shown, out: &mut [u8], at: usize) -> usize
-    requires a_bound { (shown_sets a ≤ flow_count) × (flow_count ≤ length shown.roles.now) }
+    requires a_bound { shown_sets a ≤ flow_count }
     requires longest_in_bounds { at + longest ≤ length out.old }
     ensures { Wrote out.old out.new at result (line_of a (constraint_of shown.entry.version shown.entry.deny shown.entry.roles.now)) }
 {
@@ -124,6 +125,8 @@ fn write_line(a: Answer, shown: Shown, out: &mut [u8], at: usize) -> usize
 }
 
 // A number and a line feed, which is the whole answer to a read, from a place on.
+// Kept: where there is no room, the place as it was and no `None`. Its caller has tested the room; a public
+// function here has no `requires`, so it promises something for every buffer.
 #[tactic(auto, using(output::proofs::Laws::room_there, crate::proofs::Writing::wrote_hex))]
 pub fn write_number(n: u64, out: &mut [u8], at: usize) -> usize
     ensures { Puts (room_at out.old at) out.old out.new at result (hex field_digits n ++ (line_feed ∷ [])) }
@@ -146,7 +149,8 @@ pub fn number_line(n: u64) -> [u8; SET_DIGITS + 1]
 }
 
 // The line of an answer, from a place on; a constraint that it shows is taken from the arrays.
-#[tactic(auto, using(output::proofs::Laws::room_there, crate::proofs::Writing::place_few, crate::proofs::Writing::part_long))]
+// Kept: where nothing is written, the place as it was and no `None`, as in `write_number`.
+#[tactic(auto, using(output::proofs::Laws::room_there, crate::proofs::Writing::place_few))]
 pub fn write_answer(
     a: Answer,
     versions: &[Version; Engine::PLACES],
@@ -157,15 +161,17 @@ pub fn write_answer(
 ) -> usize
     ensures { (opened : ℕ) (counts roots reaches : List ℕ) → Puts (room_at out.old at && has_place a) out.old out.new at result (line_of a (shown_in (sessions_of opened counts roots reaches versions.now denies.now rolesets.now) a)) }
 {
-    if !output::has_room(out, at) || !answers::has_place(a) {
+    if !output::has_room(out, at) {
         return at;
     }
-    let k = answers::shown_place(a);
-    let from = k * Engine::FLOWS;
+    let Some(k) = answers::place_to_show(a) else {
+        return at;
+    };
+    let (sets, _) = rolesets.as_chunks::<{ Engine::FLOWS }>();
     let shown = Shown {
         version: versions[k],
         deny: denies[k],
-        roles: &rolesets[from..from + Engine::FLOWS],
+        roles: &sets[k],
     };
     write_line(a, shown, out, at)
 }

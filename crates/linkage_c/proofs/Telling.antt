@@ -3,11 +3,13 @@
 use Prim.Native.Nat.{ℕ, ◌+◌, ◌*◌, ◌<◌}
 use mathlib.Core.Path.{◌≡◌, refl, sym, ap, ◌∙◌}
 use mathlib.Core.Logic.{◌≢◌}
-use mathlib.Core.Bool.{false}
+use mathlib.Core.Bool.{true, false, cond}
 use mathlib.Core.List.{List}
 use native.Mathlib.Omega.{arith}
 use lib.ListN.{get_or, replicate}
 use borrow.Author.Tests.{lt-ltb}
+use Rattle.std.proofs.Common.{Some, None}
+use Rattle.std.proofs.lemmas.Option.{none-some}
 use Rattle.model.specs.declared.Constraint.{Constraint}
 use Rattle.model.specs.declared.Directory.{Directory}
 use Rattle.model.specs.declared.Sessions.{Sessions}
@@ -28,7 +30,7 @@ use Rattle.model.specs.Calls.{done, returned, verdict_of, answer_of, change, ask
 use Rattle.model.proofs.Seen.{demand1}
 use Rattle.model.proofs.Demands.{told}
 use Rattle.protocol.proofs.Laws.{show_within}
-use Rattle.answers.specs.Answers.{shown_place}
+use Rattle.answers.specs.Answers.{has_place, shown_place}
 use Rattle.encoding.specs.Written.{constraint_of}
 use Rattle.step.proofs.Answers.{of_directory, of_sessions, told_after, told_answer}
 use Rattle.given.specs.Given.{version_or, roles_or, flow_or, size_or, shown_or, Tells, Finds, Adds, Shows, Judges}
@@ -117,6 +119,16 @@ module _ (e : Engine) (p : Product) (s t f : ℕ) (a : Answer) (n : ℕ) (i : t 
       let g = granted z in
       let w = show_within e p s f g in
       rw (told_answer e e (Session p s (Show f)) a h, (demand1 e (Session p s (Show f))).told g, lt-ltb (session_at p s) all_sessions w.0, lt-ltb f flow_count w.1)
+
+  in_place : n ≡ 0 → has_place a ≡ true
+  unfolding has_place
+  in_place z =
+      let w = show_within e p s f (granted z) in
+      rw (told_answer e e (Session p s (Show f)) a h, (demand1 e (Session p s (Show f))).told (granted z), lt-ltb (session_at p s) all_sessions w.0, lt-ltb f flow_count w.1)
+
+  -- a question that is granted is never without a place
+  pub shows_nowhere : n ≡ 0 → None ≡ cond (has_place a) (Some (shown_place a)) None → Shows e p s f n old old
+  shows_nowhere z none = absurd (none-some (shown_place a) (rw (in_place z) at none))
 
   pub shows : n ≡ 0 → (at version deny : ℕ) (sets : List ℕ) → at ≡ shown_place a → version ≡ get_or e.sessions.versions at 0 → deny ≡ get_or e.sessions.denies at 0
       → sets ≡ filled 0 (λ g. get_or e.sessions.rolesets (at * flow_count + g) 0) flow_count (replicate flow_count 0) → Shows e p s f n old (constraint_of version deny sets)

@@ -108,7 +108,10 @@ pub extern "C" fn linkage_lent_show(
     if n != 0 {
         return n;
     }
-    let at = answers::shown_place(a);
+    // What is granted is never without a place.
+    let Some(at) = answers::place_to_show(a) else {
+        return n;
+    };
     *told = versions[at];
     *deny = denies[at];
     *sets = sessions::sets_at(rolesets, at);
