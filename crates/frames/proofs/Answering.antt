@@ -68,10 +68,6 @@ pub read_wrote : (e : Engine) (c : Call) (p : Product) (u s f d n : ℕ) → c �
     → Puts (room_at old at) old new at next (hex field_digits n ++ (line_feed ∷ [])) → Wrote old new at next (reply e c)
 read_wrote e c p u s f d n q h {old} {new} {at} l = put_reply e c l (has_room old at l) (read_line e c p u s f d n q h)
 
-pub read_after : (e : Engine) (c : Call) (p : Product) (u s f d : ℕ) → c ≡ Read p u s f d → e ≡ after e c
-unfolding after step
-read_after e c p u s f d q = rw q
-
 -- ---- any call
 
 -- an answer that shows a constraint comes from a call that changes no session

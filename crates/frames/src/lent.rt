@@ -22,7 +22,7 @@ pub struct Fed {
 
 // A call is carried out, and its answer written from a place on. A read changes nothing and is
 // answered by its number, so that goes straight from the verdict to its digits.
-#[tactic(auto, using(crate::proofs::Answering::read_after, encoding::proofs::Writing::wrote_length))]
+#[tactic(auto, using(encoding::proofs::Writing::wrote_length), unfolding(model::specs::Calls::after, model::specs::Calls::step))]
 fn answer_call(parts: &mut Parts<'_>, call: Call, out: &mut [u8], at: usize) -> usize
     requires { at + longest ≤ length out.old }
     ensures engine { lent parts.new ≡ after (lent parts.old) call }
