@@ -16,6 +16,7 @@ ghost use Rattle.addition.specs.RoleSets.{sets_put};
 use model::{Answer, Engine, Refusal, Version};
 
 // The deny set of the last of n flows of session s; of none it is empty.
+// Kept: the limits are asked of the caller, as with a place in `graph`.
 #[tactic(auto, unfolding(model::specs::State::deny_before, model::specs::State::place))]
 fn deny_before(denies: &[u64; Engine::PLACES], s: usize, n: usize) -> u64
     requires s_lt_all_sessions { s < all_sessions }

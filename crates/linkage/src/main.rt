@@ -54,6 +54,7 @@ fn main(rt: HostRuntime) {
     let mut input = Input::new();
     let mut output = [0u8; BUFFER];
     let mut source = rt.stdin();
+    // Kept: a loop by the turns that `Input::next` promises to leave fewer, which a `for` would not show.
     while 0 < input.held.turns {
         let fed = frames::feed(&mut engine, input.part(), &mut output);
         let shown = show(rt, &output, fed.written, input.held.lines);

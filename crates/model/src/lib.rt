@@ -26,6 +26,7 @@ pub struct Directory {
 // What was asked to be kept apart. The sessions of both products have their numbers here: first the
 // server's, then the term bank's. Flow f of session number s has place s * FLOWS + f, and the role set
 // of its constraint for flow g place (s * FLOWS + f) * FLOWS + g. What is not in use is zero.
+// Kept: arrays beside one another and no array of structs, since a caller in C lends them one by one.
 #[derive(Clone, Copy)]
 pub struct Sessions {
     // The set of the open sessions.

@@ -32,6 +32,7 @@ fn put(rows: &mut [u64], a: usize, new: u64)
 }
 
 // The pair (a, b) is entered in a table.
+// Kept beside `strike`: of two lines each, one differs.
 #[tactic(auto, unfolding(crate::specs::Rows::entered))]
 pub fn enter(rows: &mut [u64], a: usize, b: usize)
     ensures { rows.new ≡ entered width rows.old a b }

@@ -28,8 +28,8 @@ pub fn empty() -> Tables
     }
 }
 
-// Kept: each change is one call on its own table. A function of them all, which takes the table and the
-// call as closures, would say the same in more lines.
+// Kept: each change, and each question further down, is one call on its own table. A function of them all,
+// which takes the table and the call as closures, would say the same in more lines.
 
 // User u gets role r.
 #[tactic(auto, unfolding(tables::specs::Tables::assigned, tables::specs::Tables::with_roles))]

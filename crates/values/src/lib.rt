@@ -35,6 +35,7 @@ pub fn fresh() -> Engine
 }
 
 // The constraint of flow f of session s.
+// Kept: the limits are asked of the caller, as with a place in `graph`.
 #[tactic(auto, unfolding(model::specs::Calls::constraint_at, model::specs::State::place, model::specs::State::set_place, model::specs::State::roleset_at))]
 fn constraint_at(kept: Sessions, s: usize, f: usize) -> Constraint
     requires s_lt_all_sessions { s < all_sessions }

@@ -20,6 +20,7 @@ fn pick(met: bool, number: u64, later: u64) -> u64
 
 // The number of the first of rows 11 to 14 that is met, and 0 where none is. A read by duty passes the
 // last two.
+// Kept: a number, as `reading::number` gives it.
 pub fn first_of(
     out_of_reach: bool,
     no_permission: bool,
