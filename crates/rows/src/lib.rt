@@ -58,7 +58,7 @@ pub fn there(rows: &[u64], a: usize, b: usize) -> bool
 }
 
 // The union of the rows of the members of s, one member after the other.
-#[tactic(auto, unfolding(sets::specs::Sets::IsLowest))]
+#[tactic(auto, using(crate::proofs::Laws::gathered_start, crate::proofs::Laws::gathered_all), unfolding(sets::specs::Sets::IsLowest))]
 pub fn image(rows: &[u64; WIDTH], s: u64) -> u64
     ensures { result ≡ image width width (there rows.now) s }
 {

@@ -1,8 +1,6 @@
-use mathlib.Core.Path.{◌≡◌, sym, ◌∙◌}
+use mathlib.Core.Path.{◌∙◌}
 use mathlib.Core.List.{[]}
 use native.Mathlib.Omega.{arith}
-use lib.ListN.{length}
-use Prim.Native.Nat.{ℕ, min, ◌≤◌}
 use Rattle.std.proofs.lemmas.List.{length-take}
 use Rattle.model.specs.State.{sessions_of}
 use Rattle.search.proofs.Laws.{conflicts_taken}
