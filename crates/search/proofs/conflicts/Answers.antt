@@ -1,10 +1,7 @@
-use Prim.Native.Nat.{ℕ, min}
 use mathlib.Core.Path.{◌≡◌, refl, sym, ap, ◌∙◌}
 use native.Mathlib.Omega.{arith}
 use lib.Dec.{eqb}
-use lib.ListN.{length, take}
 use borrow.Author.Tests.{eq-eqb, ne_eqb}
-use Rattle.std.proofs.lemmas.List.{take_min}
 use Rattle.sets.proofs.Laws.{count_none, counted, uncounted}
 use Rattle.tables.specs.Tables.{user_count, role_count}
 use Rattle.search.proofs.Laws.{few, second, found_start, found_taken, found_left, found_passed, found_all}
