@@ -13,7 +13,7 @@ use lib.Dec.{ltb, eqb, leb}
 use lib.ListN.{length, get_or, take, drop, set, replicate, length-drop, length-append, length-set, length-replicate, get_or-append}
 use lib.Pow.{pow-add, pow_mono}
 use lib.Seq.{take_all, take-suc-set, get_or-drop, get_or_at}
-use borrow.Author.Tests.{lt-ltb, le-ltb, eq-eqb, ne_eqb, le-leb, lt-leb, ltb-true, ltb-false, leb-true, eqb-true}
+use borrow.Author.Tests.{lt-ltb, eq-eqb, le-leb, lt-leb, ltb-true, ltb-false, leb-true, eqb-true}
 use Rattle.sets.proofs.Laws.{and_both}
 use Rattle.model.specs.declared.calls.Call.{Call}
 use Rattle.protocol.specs.Lines.{line_feed, rest_digits, called_by}
@@ -34,9 +34,6 @@ use Rattle.decoding.specs.Frames.{is_frame, frame_if, call_by, frame_by}
 -- a part of a list that runs to its end
 pub to_end : (n : ℕ) (s : List ℕ) → n ≤ length s → take (length s - n) (drop n s) ≡ drop n s
 to_end n s h = take_all (length s - n) (drop n s) (omega (arith, length-drop n s))
-
-pub to_end_long : (n m : ℕ) (s : List ℕ) → n + m ≤ length s → m ≤ length (take (length s - n) (drop n s))
-to_end_long n m s h = rw (to_end n s (omega arith)) (omega (arith, length-drop n s))
 
 -- ---- pairs
 

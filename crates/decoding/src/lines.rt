@@ -18,16 +18,7 @@ pub struct NextLine {
 }
 
 // The line from a place on; none where no line feed follows.
-#[tactic(
-    auto,
-    using(
-        crate::proofs::Places::next_past,
-        crate::proofs::Places::next_fits,
-        crate::proofs::Places::next_frame,
-        crate::proofs::Places::next_other,
-        crate::proofs::Places::next_none
-    )
-)]
+#[tactic(auto, using(crate::proofs::Places::next_past, crate::proofs::Places::next_fits, crate::proofs::Places::next_frame, crate::proofs::Places::next_other, crate::proofs::Places::next_none))]
 pub fn next_line(digits: &Digits, s: &[u8], at: usize) -> Option<NextLine>
     ensures { result ≡ next_by digits.now.high digits.now.low s.now at }
 {

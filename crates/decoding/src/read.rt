@@ -40,13 +40,7 @@ fn two(digits: &Digits, s: &[u8], at: usize) -> Option<usize>
 }
 
 // The numbers of the first N pairs.
-#[tactic(
-    auto,
-    using(
-        crate::proofs::Reading::pairs_wrong,
-        crate::proofs::Reading::pairs_all
-    )
-)]
+#[tactic(auto, using(crate::proofs::Reading::pairs_wrong, crate::proofs::Reading::pairs_all))]
 fn pairs<const N: usize>(digits: &Digits, s: &[u8]) -> Option<[usize; N]>
     requires { 2 * N ≤ length s.now }
     ensures { result ≡ pairs_read digits.now.high digits.now.low s.now N }
@@ -78,13 +72,7 @@ fn fields<const N: usize>(digits: &Digits, s: &[u8]) -> Option<[usize; N]>
 }
 
 // A role set of sixteen digits, two at a time.
-#[tactic(
-    auto,
-    using(
-        crate::proofs::Reading::set_none,
-        crate::proofs::Reading::sofar_start
-    )
-)]
+#[tactic(auto, using(crate::proofs::Reading::set_none, crate::proofs::Reading::sofar_start))]
 fn role_set(digits: &Digits, s: &[u8]) -> Option<u64>
     requires { 16 ≤ length s.now }
     ensures { result ≡ chosen_set digits.now.high digits.now.low s.now }
@@ -98,15 +86,7 @@ fn role_set(digits: &Digits, s: &[u8]) -> Option<u64>
 }
 
 // Two fields and a role set.
-#[tactic(
-    auto,
-    using(
-        crate::proofs::Reading::addition_open,
-        crate::proofs::Reading::addition_none,
-        crate::proofs::Reading::addition_unset,
-        crate::proofs::Reading::addition_some
-    )
-)]
+#[tactic(auto, using(crate::proofs::Reading::addition_open, crate::proofs::Reading::addition_none, crate::proofs::Reading::addition_unset, crate::proofs::Reading::addition_some))]
 fn fields_and_set(digits: &Digits, s: &[u8]) -> Option<Rest>
     ensures { result ≡ addition digits.now.high digits.now.low s.now }
 {
@@ -125,17 +105,7 @@ fn fields_and_set(digits: &Digits, s: &[u8]) -> Option<Rest>
 }
 
 // The fields of a frame of this kind, of whose rest the input is.
-#[tactic(
-    auto,
-    using(
-        crate::proofs::Reading::open_none,
-        crate::proofs::Reading::open_some,
-        crate::proofs::Reading::two_none,
-        crate::proofs::Reading::two_some,
-        crate::proofs::Reading::read_none,
-        crate::proofs::Reading::add_some
-    )
-)]
+#[tactic(auto, using(crate::proofs::Reading::open_none, crate::proofs::Reading::open_some, crate::proofs::Reading::two_none, crate::proofs::Reading::two_some, crate::proofs::Reading::read_none, crate::proofs::Reading::add_some))]
 fn fields_of(digits: &Digits, s: &[u8], kind: Kind) -> Option<Rest>
     ensures { result ≡ fields_by digits.now.high digits.now.low s.now (rest_digits (number_of_kind kind)) }
 {
@@ -179,16 +149,7 @@ fn fields_of(digits: &Digits, s: &[u8], kind: Kind) -> Option<Rest>
 }
 
 // The frame that an input begins with.
-#[tactic(
-    auto,
-    using(
-        crate::proofs::Reading::frame_short,
-        crate::proofs::Reading::frame_wrong,
-        crate::proofs::Reading::frame_unknown,
-        crate::proofs::Reading::frame_none,
-        crate::proofs::Reading::frame_some
-    )
-)]
+#[tactic(auto, using(crate::proofs::Reading::frame_short, crate::proofs::Reading::frame_wrong, crate::proofs::Reading::frame_unknown, crate::proofs::Reading::frame_none, crate::proofs::Reading::frame_some))]
 pub(crate) fn decode(digits: &Digits, line: &[u8]) -> Option<Frame>
     ensures { result ≡ frame_by digits.now.high digits.now.low line.now }
 {
@@ -204,15 +165,7 @@ pub(crate) fn decode(digits: &Digits, line: &[u8]) -> Option<Frame>
 }
 
 // The call that a line is, without its line feed.
-#[tactic(
-    auto,
-    using(
-        protocol::proofs::Laws::longer,
-        crate::proofs::Meaning::line_found,
-        crate::proofs::Meaning::line_longer,
-        crate::proofs::Meaning::line_none
-    )
-)]
+#[tactic(auto, using(protocol::proofs::Laws::longer, crate::proofs::Meaning::line_found, crate::proofs::Meaning::line_longer, crate::proofs::Meaning::line_none))]
 pub fn read_call(line: &[u8]) -> Call
     ensures { result ≡ call_of line.now }
 {

@@ -74,17 +74,7 @@ pub struct Fields {
 }
 
 // The call of a kind with these fields, of which a kind takes the first ones.
-#[tactic(
-    auto,
-    using(
-        crate::proofs::Laws::open_called,
-        crate::proofs::Laws::conflicting_called,
-        crate::proofs::Laws::add_called,
-        crate::proofs::Laws::read_called,
-        crate::proofs::Laws::show_called
-    ),
-    unfolding(crate::specs::Kinds::field_in, crate::specs::Kinds::number_of_kind, protocol::specs::Lines::called_by)
-)]
+#[tactic(auto, using(crate::proofs::Laws::open_called, crate::proofs::Laws::conflicting_called, crate::proofs::Laws::add_called, crate::proofs::Laws::read_called, crate::proofs::Laws::show_called), unfolding(crate::specs::Kinds::field_in, crate::specs::Kinds::number_of_kind, protocol::specs::Lines::called_by))]
 pub fn call_of(kind: Kind, fields: Fields) -> Call
     ensures { result ≡ called_by (number_of_kind kind) (field_in fields) fields.chosen }
 {

@@ -14,7 +14,6 @@ use Rattle.std.specs.List.{position, copy_within}
 use Rattle.protocol.specs.Widths.{kept}
 use Rattle.protocol.specs.Lines.{line_feed}
 use Rattle.protocol.specs.Run.{feed_at, kept_of}
-use Rattle.pieces.specs.Pieces.{between}
 use Rattle.pieces.proofs.Feeds.{first}
 
 -- ---- how many bytes

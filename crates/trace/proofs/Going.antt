@@ -34,9 +34,6 @@ pub record Going (text : List ℕ) (at pair : ℕ) (e : Engine) : Type 0 where
   pub counted : pair ≤ at + 1
   pub rest : outcome_from 1 fresh (lines_of text) ≡ outcome_from pair e (lines_of (drop at text))
 
-pub going_start : (text : List ℕ) → Going text 0 1 fresh
-going_start text = record { within = omega arith; counted = omega arith; rest = refl }
-
 -- a line is a part of the text
 pub line_within : (text : List ℕ) (at : ℕ) (line : List ℕ) → line ≡ line_at text at → at ≤ length text → at + length line ≤ length text
 unfolding line_at
@@ -112,19 +109,6 @@ written_within {old = old} {x = x} f = rw (f.written, f.output, length-append x.
 pub too_long : (text : List ℕ) → limit < length text → TooLong ≡ outcome text
 unfolding outcome
 too_long text l = rw (lt-ltb limit (length text) l)
-
--- ---- the same bytes
-
-pub unlike_length : (a b : List ℕ) → (length a ≡ length b → ⊥) → false ≡ same a b
-unfolding same
-unlike_length [] [] n = absurd (n refl)
-unlike_length [] (y ∷ ys) n = refl
-unlike_length (x ∷ xs) [] n = refl
-unlike_length (x ∷ xs) (y ∷ ys) n = go (eqb x y) (unlike_length xs ys (λ q. n (omega arith)))
-  where
-    go : (t : Bool) → false ≡ same xs ys → false ≡ (t && same xs ys)
-    go true h = h
-    go false h = refl
 
 -- ---- the same bytes
 

@@ -34,14 +34,7 @@ fn sixteen() -> Printed
 }
 
 // The line of an outcome.
-#[tactic(
-    auto,
-    using(
-        crate::proofs::PrintedLines::agree_line,
-        crate::proofs::PrintedLines::differs_line,
-        crate::proofs::PrintedLines::sixteen_line
-    )
-)]
+#[tactic(auto, using(crate::proofs::PrintedLines::agree_line, crate::proofs::PrintedLines::differs_line, crate::proofs::PrintedLines::sixteen_line))]
 pub fn printed_line(outcome: Outcome) -> Printed
     ensures { result ≡ filled (printed outcome) }
 {

@@ -22,16 +22,7 @@ pub enum Outcome {
 }
 
 // Goes over a recorded run, from a fresh engine.
-#[tactic(
-    auto,
-    using(
-        crate::proofs::Going::too_long,
-        crate::proofs::Going::line_within,
-        crate::proofs::Going::going_last,
-        crate::proofs::Going::written_within,
-        crate::proofs::Going::going_end
-    )
-)]
+#[tactic(auto, using(crate::proofs::Going::too_long, crate::proofs::Going::line_within, crate::proofs::Going::going_last, crate::proofs::Going::written_within, crate::proofs::Going::going_end))]
 pub fn replay(text: &[u8]) -> Outcome
     ensures { result ≡ outcome text.now }
 {
