@@ -38,6 +38,8 @@ fn links(rolesets: &[u64; Engine::ROLE_SETS], deny: u64, held: u64, at: usize) -
 //
 // Kept: the answer is a number and not the enum, which costs a read a quarter more and which the C
 // interface would turn into the number. The arrays come one by one, as that interface lends them.
+// Inlined always: a stream's loop in the library then moves no fourteen parameters for a read.
+#[inline(always)]
 #[tactic(auto, unfolding(model::specs::Calls::read, model::specs::Calls::returned, model::specs::Calls::number_of, model::specs::Calls::by_duty, model::specs::Calls::links, model::specs::State::roleset_at, model::specs::State::set_place, model::specs::State::place))]
 pub fn number(
     roles: &[u64; Engine::USERS],
