@@ -86,7 +86,7 @@ fn role_set(digits: &Digits, s: &[u8]) -> Option<u64>
 }
 
 // Two fields and a role set.
-#[tactic(auto, using(crate::proofs::Reading::addition_open, crate::proofs::Reading::addition_none, crate::proofs::Reading::addition_unset, crate::proofs::Reading::addition_some))]
+#[tactic(auto, using(crate::proofs::Reading::addition_open, crate::proofs::Reading::addition_none, crate::proofs::Reading::addition_unset))]
 fn fields_and_set(digits: &Digits, s: &[u8]) -> Option<Rest>
     ensures { result ≡ addition digits.now.high digits.now.low s.now }
 {
