@@ -36,6 +36,7 @@ pub fn carry_out(engine: &mut Engine, call: Call) -> Answer
 }
 
 // Any call on an engine by value.
+#[tactic(auto, unfolding(model::specs::Calls::answer, model::specs::Calls::after))]
 fn taken(mut e: Engine, call: Call) -> Changed
     ensures { (result.answer ≡ answer e call) × (result.engine ≡ after e call) }
 {
@@ -150,6 +151,7 @@ pub fn add_flow(e: Engine, product: Product, s: usize, root: usize, chosen: u64)
 }
 
 // 0a and 0f
+#[tactic(auto, unfolding(model::specs::Calls::shown_by))]
 pub fn show(e: Engine, product: Product, s: usize, f: usize) -> Shown
     ensures { result ≡ shown_by e product s f }
 {
