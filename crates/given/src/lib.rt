@@ -23,8 +23,8 @@ pub fn tell(a: Answer, told: &mut Version) -> u64
 // where there is no such session or no such product.
 // Kept: a number for the product and one past the last session, since a caller in C names products by
 // numbers, and is given this one back (`linkage_session`); row 2 of each call refuses it.
-// Kept: a sum and no `match`, whose branch can't be foreseen where both products are asked: with it a
-// read through the library takes half as long again.
+// Kept: a sum and no `match` of the product, whose branch can't be foreseen where both products are asked:
+// with it a read through the library takes half as long again.
 #[tactic(auto, using(crate::proofs::Products::no_product, crate::proofs::Products::no_session, crate::proofs::Products::at_one))]
 pub fn number_of(product: usize, session: usize) -> usize
     ensures { result ≡ session_at (product_of product) (session_of product session) }
