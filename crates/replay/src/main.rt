@@ -29,7 +29,7 @@ fn show(rt: HostRuntime, bytes: &[u8]) {
     streams::write_or_say(
         rt,
         &mut rt.stdout(),
-        line.as_bytes(),
+        &line,
         b"replay: the number was not written",
     );
 }

@@ -1,4 +1,3 @@
 pub mod Lines
 pub mod Outcomes
-pub mod Filled
 pub mod Recorded

@@ -6,6 +6,6 @@ mod printing;
 mod reader;
 mod replaying;
 
-pub use printing::{Printed, WIDEST, printed_line};
+pub use printing::{WIDEST, printed_line};
 pub use reader::{Trace, line_at};
 pub use replaying::{LIMIT, Outcome, replay};

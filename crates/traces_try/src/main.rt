@@ -12,7 +12,7 @@ const ROOM: usize = LIMIT + 1;
 // Goes over a recorded run and writes its line. Where it can't be written there is nobody to tell.
 fn show(rt: HostRuntime, run: &[u8]) {
     let line = trace::printed_line(trace::replay(run));
-    let _ = rt.write_all(line.as_bytes());
+    let _ = rt.write_all(&line);
 }
 
 // Tries the runs in all files that are named.
