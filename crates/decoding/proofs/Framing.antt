@@ -1,22 +1,22 @@
 -- A line as it is taken for a frame: what its length says of it, and that it is the call that the line is.
 -- Assumes nothing.
 use Prim.Native.Nat.{ℕ, ◌+◌, ◌≤◌, ◌<◌}
-use mathlib.Core.Path.{◌≡◌, refl, ap, sym, ◌∙◌}
+use mathlib.Core.Path.{◌≡◌, refl, sym, ◌∙◌}
 use mathlib.Core.Bool.{Bool, true, false}
-use mathlib.Core.List.{List, [], ◌∷◌, ◌++◌}
+use mathlib.Core.List.{List, []}
 use native.Mathlib.Omega.{arith}
 use lib.Dec.{leb, ltb}
-use lib.ListN.{length, take}
+use lib.ListN.{length}
 use borrow.Author.Tests.{le-leb, lt-leb, leb-true, ltb-true, ltb-false}
 use Rattle.std.specs.Prelude.{Option}
 use Rattle.std.specs.Option.{is_some}
 use Rattle.protocol.specs.Widths.{kept}
-use Rattle.protocol.specs.Lines.{line_feed, call_of}
+use Rattle.protocol.specs.Lines.{call_of}
 use Rattle.protocol.specs.Run.{feed_at}
 use Rattle.protocol.proofs.Laws.{NoFeed, none, longer, empty_line, feed_within, feed_at_le, no_feed_of}
 use Rattle.pieces.specs.Pieces.{feed_from}
 use Rattle.pieces.proofs.Feeds.{feed_known}
-use Rattle.decoding.specs.Frames.{framing, IsFramed}
+use Rattle.decoding.specs.Frames.{framing}
 
 pub framing_long : (line : List ℕ) → kept ≤ length line → [] ≡ framing line
 unfolding framing
@@ -35,10 +35,6 @@ module _ (line : List ℕ) (short : length line < kept) {place : Option ℕ} (fo
   pub framing_line : is_some place ≡ false → line ≡ framing line
   unfolding framing
   framing_line t = rw (lt-leb kept (length line) short, there, t) refl
-
-pub is_framed : (line framed bytes : List ℕ) → framed ≡ framing line → length framed < kept → take (length framed + 1) bytes ≡ framed ++ (line_feed ∷ [])
-    → IsFramed line (record { bytes = bytes; len = length framed + 1 })
-is_framed line framed bytes f l h = record { bytes = h ∙ ap (λ (b : List ℕ). b ++ (line_feed ∷ [])) f; within = omega arith }
 
 -- ---- what is taken for a frame is the same call, and has no line feed
 

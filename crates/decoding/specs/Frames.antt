@@ -1,14 +1,13 @@
 -- The frame that an input begins with, and the next line of an input, by any two tables; and what a caller gets who lends the tables of the digits.
 -- Assumes nothing.
-use Rattle.std.specs.Prelude.{ℕ, ◌+◌, ◌*◌, ◌/◌, ◌≤◌, ◌<◌, ◌≡◌, Bool, true, false, cond, ◌&&◌, Option, Some, None, List, [], ◌∷◌, ◌++◌, leb, ltb, length, take, drop}
+use Rattle.std.specs.Prelude.{ℕ, ◌+◌, ◌*◌, ◌/◌, ◌<◌, ◌≡◌, Bool, true, false, cond, ◌&&◌, Option, Some, None, List, [], leb, ltb, length, take, drop}
 use Rattle.model.specs.declared.calls.Call.{Call}
 use Rattle.model.specs.declared.calls.Call.TheVariants.{Table, Session, Read, Unreadable}
 use Rattle.protocol.specs.Widths.{kept}
-use Rattle.protocol.specs.Lines.{line_feed, rest_digits, called_by, call_of}
+use Rattle.protocol.specs.Lines.{rest_digits, called_by, call_of}
 use Rattle.protocol.specs.Run.{feed_at}
 use Rattle.decoding.specs.declared.read.Frame.{Frame}
 use Rattle.decoding.specs.declared.lines.NextLine.{NextLine}
-use Rattle.decoding.specs.declared.lines.Framed.{Framed}
 use Rattle.decoding.specs.Fields.{pair_at, pairs_number, ended_by, set_pairs}
 
 unfoldable pub is_frame : Call → Bool
@@ -52,8 +51,3 @@ LineAt s at None = feed_at (drop at s) ≡ length (drop at s)
 -- a line as it is taken for a frame: the line, or the empty one where it is longer than every frame or has a line feed in it. Neither is a frame then
 unfoldable pub framing : List ℕ → List ℕ
 framing line = cond (leb kept (length line)) [] (cond (ltb (feed_at line) (length line)) [] line)
-
--- with its line feed it stands at the start of an array
-pub record IsFramed (line : List ℕ) (r : Framed) : Type 0 where
-  pub bytes : take r.len r.bytes ≡ framing line ++ (line_feed ∷ [])
-  pub within : r.len ≤ kept

@@ -6,6 +6,6 @@ mod lines;
 mod read;
 
 pub use digits::Digits;
-pub use lines::{Framed, NextLine, as_frame, next_line};
+pub use lines::{NextLine, as_frame, next_line};
 pub use pieces::{find_feed, keep};
 pub use read::read_call;

@@ -1,11 +1,12 @@
 // The next line of an input: its call, and where it ends. A frame's kind tells its length, so that
 // only a line that is no frame is searched for its line feed.
-ghost use Rattle.std.specs.Prelude.{◌≡◌, [], ◌∷◌, ◌++◌, ◌+◌, ◌<◌, length, take};
+ghost use Rattle.std.specs.Prelude.{◌≡◌, [], ◌∷◌, ◌++◌, ◌<◌, length};
 ghost use Rattle.protocol.specs.Widths.{kept};
 ghost use Rattle.protocol.specs.Lines.{line_feed};
-ghost use Rattle.decoding.specs.Frames.{framing, IsFramed, next_by};
+ghost use Rattle.decoding.specs.Frames.{framing, next_by};
 
 use super::read;
+use arrayvec::ArrayVec;
 use digits::Digits;
 use model::Call;
 use protocol::KEPT;
@@ -36,31 +37,14 @@ pub fn next_line(digits: &Digits, s: &[u8], at: usize) -> Option<NextLine>
 }
 
 // A short line with its line feed.
-pub(crate) fn with_feed(line: &[u8]) -> [u8; KEPT]
+pub(crate) fn with_feed(line: &[u8]) -> ArrayVec<u8, KEPT>
     requires { length line.now < kept }
-    ensures { take (length line.now + 1) result ≡ line.now ++ (line_feed ∷ []) }
+    ensures { result.items ≡ line.now ++ (line_feed ∷ []) }
 {
-    let mut bytes = [0; KEPT];
-    bytes[..line.len()].copy_from_slice(line);
-    bytes[line.len()] = b'\n';
+    let mut bytes = ArrayVec::new();
+    let _ = bytes.try_extend_from_slice(line);
+    bytes.push(b'\n');
     bytes
-}
-
-// A line with its line feed, at the start of an array, and how long it is.
-// Kept: nothing is allocated, so a line of no fixed length lies in an array of the greatest one.
-#[derive(Clone, Copy)]
-pub struct Framed {
-    pub bytes: [u8; KEPT],
-    pub len: usize,
-}
-
-impl Framed {
-    // The line with its line feed.
-    pub fn as_bytes(&self) -> &[u8]
-        ensures { result.now ≡ take self.now.len self.now.bytes }
-    {
-        &self.bytes[..self.len.min(KEPT)]
-    }
 }
 
 // What of a line is taken for a frame: all, or nothing where it is longer than every frame or has a line
@@ -81,13 +65,8 @@ fn framing(line: &[u8]) -> &[u8]
 
 // A line that came without its line feed, as the next line of an input. What can be no frame becomes the
 // empty line, which is none either.
-#[tactic(auto, using(crate::proofs::Framing::is_framed))]
-pub fn as_frame(line: &[u8]) -> Framed
-    ensures { IsFramed line.now result }
+pub fn as_frame(line: &[u8]) -> ArrayVec<u8, KEPT>
+    ensures { result.items ≡ framing line.now ++ (line_feed ∷ []) }
 {
-    let line = framing(line);
-    Framed {
-        bytes: with_feed(line),
-        len: line.len() + 1,
-    }
+    with_feed(framing(line))
 }

@@ -174,7 +174,7 @@ pub fn read_call(line: &[u8]) -> Call
         return Call::Unreadable;
     }
     let bytes = lines::with_feed(line);
-    match decode(&Digits::new(), &bytes[..n + 1]) {
+    match decode(&Digits::new(), &bytes) {
         Some(frame) if frame.digits == n => frame.call,
         _ => Call::Unreadable,
     }

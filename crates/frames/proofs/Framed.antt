@@ -7,7 +7,7 @@ use mathlib.Core.List.{List, [], ◌∷◌, ◌++◌, append-nil}
 use native.Mathlib.Decide.{dec_lt}
 use native.Mathlib.Omega.{arith}
 use lib.Dec.{leb}
-use lib.ListN.{length, take}
+use lib.ListN.{length}
 use borrow.Author.Tests.{le-leb, lt-leb}
 use Rattle.model.specs.declared.Engine.{Engine}
 use Rattle.model.specs.Calls.{after}
@@ -15,8 +15,7 @@ use Rattle.protocol.specs.Widths.{longest}
 use Rattle.protocol.specs.Lines.{line_feed, call_of}
 use Rattle.protocol.specs.Run.{reply, wrote, fed_from, fed}
 use Rattle.protocol.proofs.Laws.{NoFeed, no_room, fed_line}
-use Rattle.decoding.specs.declared.lines.Framed.{Framed}
-use Rattle.decoding.specs.Frames.{framing, IsFramed}
+use Rattle.decoding.specs.Frames.{framing}
 use Rattle.decoding.proofs.Framing.{framing_same}
 use Rattle.frames.specs.declared.lent.Fed.{Fed as Given}
 use Rattle.frames.specs.Stream.{Answers, Feeds}
@@ -26,9 +25,9 @@ pub fed_frame : (room : ℕ) (e : Engine) (line : List ℕ) → NoFeed line → 
 unfolding fed fed_from wrote
 fed_frame room e line n r = fed_line room e [] line [] n r ∙ rw append-nil
 
-module _ (e e' : Engine) (line piece old new : List ℕ) (x : Framed) (r : Given) (whole : IsFramed line x) (part : piece ≡ take x.len x.bytes) (f : Feeds piece old new e' (fed (length old) e piece) r) where
+module _ (e e' : Engine) (line items piece old new : List ℕ) (r : Given) (whole : items ≡ framing line ++ (line_feed ∷ [])) (part : piece ≡ items) (f : Feeds piece old new e' (fed (length old) e piece) r) where
   p : piece ≡ framing line ++ (line_feed ∷ [])
-  p = part ∙ whole.bytes
+  p = part ∙ whole
 
   none_framed : length old < longest → Answers line e e' old new r.written
   none_framed l =

@@ -87,7 +87,7 @@ pub fn answer_frame(parts: &mut Parts<'_>, line: &[u8], out: &mut [u8]) -> usize
     ensures answers { Answers line.now (lent parts.old) (lent parts.new) out.old out.new result }
 {
     let framed = decoding::as_frame(line);
-    let fed = feed(parts, framed.as_bytes(), out);
+    let fed = feed(parts, &framed, out);
     fed.written
 }
 

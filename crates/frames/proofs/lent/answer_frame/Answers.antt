@@ -3,4 +3,4 @@ use Rattle.frames.proofs.Framed.{framed}
 use Rattle.frames.proofs.lent.answer_frame.Goals as goal
 
 pub returns-clause-answers : goal.returns-clause-answers
-returns-clause-answers c = framed _ _ _ _ _ _ _ _ c.as_frame-framed.ensures c.as_bytes.ensures c.feed-fed.ensures.fed
+returns-clause-answers c = framed _ _ _ _ _ _ _ _ c.as_frame-framed.ensures c.deref.ensures.0 c.feed-fed.ensures.fed
