@@ -34,7 +34,8 @@ const FIELD_DIGITS: usize = 2;
 // it is compiled, no loop is left of it.
 // Kept: a place and the buffer are handed on, here and below. A struct that held both would have to
 // promise in each method that it still lends the same buffer.
-// Kept: an index, since of the bytes that `iter_mut` with `rev` hands out nothing is known after the loop.
+// Kept: an index, since of the bytes that `iter_mut` with `rev` hands out nothing is known after the loop;
+// and no `write!`, which could fail and would have to be looked at for each number.
 #[tactic(auto, using(crate::proofs::Writing::digits_start, crate::proofs::Writing::digits_step))]
 fn write_hex<const N: usize>(v: u64, out: &mut [u8], at: usize) -> usize
     requires { at + N ≤ length out.old }

@@ -31,7 +31,8 @@ pub fn roles(readers: &[u64; Engine::DATABASES], databases: u64) -> u64
 }
 
 // The databases of flow g of session s, which has n flows, with a new one counted in as the next one:
-// older flows keep those of their addition. None where there is no such flow.
+// older flows keep those of their addition. None where there is no such flow. Where no flow is counted in,
+// `new` is the empty set.
 // Kept: a session and a flow within their limits are asked of the caller, here and where else a place is
 // worked out. A public function for the place would have to answer for any numbers, and each caller has
 // tested them in rows of the refusal table.

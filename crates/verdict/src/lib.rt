@@ -38,6 +38,7 @@ pub fn first_of(
 }
 
 // The verdict that has this number.
+// Kept: 0 beside the refusals' `TryFrom`, and no `TryFrom` of its own, since every number has a verdict here.
 pub fn verdict_by(number: u64) -> Verdict
     ensures { result ≡ verdict_by number }
 {
