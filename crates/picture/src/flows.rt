@@ -5,8 +5,8 @@ use super::page::Page;
 use super::shapes;
 use super::shapes::{Area, Class, Look, Point, Step};
 use model::{Constraint, Engine};
-use std::fmt;
 use sets::Members;
+use std::fmt;
 use tables::{Tables, lent};
 
 // A row of a band, and what stands above the first one.
