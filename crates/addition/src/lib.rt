@@ -30,6 +30,8 @@ fn deny_before(denies: &[u64; Engine::PLACES], s: usize, n: usize) -> u64
 }
 
 // The flow at this place gets these role sets, one for each flow.
+// Kept: the slice is cut here and where else a place's role sets are wanted, in two lines; the limit on the
+// place is asked of the caller.
 fn put_sets(rolesets: &mut [u64; Engine::ROLE_SETS], given: &[u64; Engine::FLOWS], at: usize)
     requires { at < place_count }
     ensures { rolesets.new ≡ sets_put given.now (at * flow_count) rolesets.old }
@@ -39,6 +41,7 @@ fn put_sets(rolesets: &mut [u64; Engine::ROLE_SETS], given: &[u64; Engine::FLOWS
 }
 
 // 08 and 0d: session s gets a flow of this root, with these roles chosen.
+// Kept: the arrays one by one, as the C interface lends them.
 #[tactic(auto, unfolding(model::specs::Calls::add))]
 pub fn add(
     roles: &[u64; Engine::USERS],

@@ -18,6 +18,7 @@ fn number(why: Refusal) -> u64
 }
 
 // 0 for what is accepted, else the number refused.
+// Kept: a number, which is written into a line and given back to a caller in C.
 #[tactic(auto, unfolding(model::specs::Calls::returned, model::specs::Calls::verdict_of))]
 pub fn returned(a: Answer) -> u64
     ensures { result ≡ returned (verdict_of a) }

@@ -140,6 +140,7 @@ pub fn write_number(n: u64, out: &mut [u8], at: usize) -> usize
 }
 
 // A number in sixteen digits, and a line feed.
+// Kept: by `write_hex` and no `write!`: its promise is that of every number in a line.
 pub fn number_line(n: u64) -> [u8; SET_DIGITS + 1]
     ensures { result ≡ hex set_digits n ++ (line_feed ∷ []) }
 {

@@ -82,6 +82,7 @@ pub fn feed(parts: &mut Parts<'_>, input: &[u8], out: &mut [u8]) -> Fed
 // One frame, a line without its line feed, is carried out, and its answer line written at the start of
 // `out`. Where there is less room than the longest answer needs, nothing is done. It goes by `feed`, so
 // that there is one place from which calls are answered, and the compiler makes one loop of it.
+// Kept: 0 bytes where nothing is done, as a caller in C is told it.
 pub fn answer_frame(parts: &mut Parts<'_>, line: &[u8], out: &mut [u8]) -> usize
     ensures same { Same parts.new parts.old }
     ensures answers { Answers line.now (lent parts.old) (lent parts.new) out.old out.new result }

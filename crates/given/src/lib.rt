@@ -9,6 +9,7 @@ ghost use Rattle.given.specs.Given.{product_of, session_of, version_or};
 use model::{Answer, Engine, Version};
 
 // The number that an answer returns; the version that it tells goes where the caller wants it.
+// Kept: a number, which a caller in C is given back.
 #[tactic(auto, unfolding(crate::specs::Given::version_or))]
 pub fn tell(a: Answer, told: &mut Version) -> u64
     ensures { (result ≡ returned (verdict_of a)) × (told.new ≡ version_or told.old a) }

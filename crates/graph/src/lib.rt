@@ -31,11 +31,11 @@ pub fn roles(readers: &[u64; Engine::DATABASES], databases: u64) -> u64
 }
 
 // The databases of flow g of session s, which has n flows, with a new one counted in as the next one:
-// older flows keep those of their addition. None where there is no such flow. Where no flow is counted in,
-// `new` is the empty set.
+// older flows keep those of their addition. None where there is no such flow.
+// Kept: `new` is the empty set where no flow is counted in, and no `None`: a flow that reaches no database.
 // Kept: a session and a flow within their limits are asked of the caller, here and where else a place is
 // worked out. A public function for the place would have to answer for any numbers, and each caller has
-// tested them in rows of the refusal table.
+// tested them.
 #[tactic(auto, unfolding(model::specs::State::reach_with, model::specs::State::place))]
 fn databases_with(reaches: &[u64; Engine::PLACES], s: usize, n: usize, new: u64, g: usize) -> u64
     requires s_lt_all_sessions { s < all_sessions }
@@ -54,6 +54,7 @@ fn databases_with(reaches: &[u64; Engine::PLACES], s: usize, n: usize, new: u64,
 // Step 2 for each flow of session s, which has its number among those of both products, with a new flow
 // counted in; nobody where there is no such session. (A slice of reaches in place of their array costs a
 // tenth of the time of a mixed list.)
+// Kept: an array of as many as there may be, of which a caller takes those that it wants.
 #[tactic(auto, unfolding(crate::specs::Graph::roles_by_flow))]
 pub fn roles_by_flow(
     readers: &[u64; Engine::DATABASES],

@@ -67,6 +67,8 @@ impl TryFrom<usize> for Kind {
 }
 
 // The fields of a call; a kind takes the first ones of the four, and zeros stand behind them.
+// Kept: one struct for all kinds. With an enum for each number of fields there are two ways through each arm
+// of the match over kinds (docs/DECISIONS.md).
 #[derive(Clone, Copy)]
 pub struct Fields {
     pub numbers: [usize; 4],

@@ -15,10 +15,8 @@ struct Shown {
     is_open: bool,
 }
 
-// Writes the first n bytes, and counts the lines that are written whole. Where not all are written it
-// says so.
-fn show(rt: HostRuntime, bytes: &[u8], n: usize, lines: u64) -> Shown {
-    let answers = streams::first(n, bytes);
+// Writes answers, and counts the lines that are written whole. Where not all are written it says so.
+fn show(rt: HostRuntime, answers: &[u8], lines: u64) -> Shown {
     let mut output = rt.stdout();
     let written = streams::write_all(rt, &mut output, answers);
     let lines = streams::lines_and(lines, &answers[..written.end]);
@@ -45,7 +43,7 @@ fn end(rt: HostRuntime, held: Held, output: &mut [u8; BUFFER]) {
         return;
     }
     if let Some(n) = frames::finish(held.filled, output) {
-        show(rt, output, n, held.lines);
+        show(rt, streams::first(n, output), held.lines);
     }
 }
 
@@ -54,10 +52,12 @@ fn main(rt: HostRuntime) {
     let mut input = Input::new();
     let mut output = [0u8; BUFFER];
     let mut source = rt.stdin();
-    // Kept: a loop by the turns that `Input::next` promises to leave fewer, which a `for` would not show.
+    // Kept: a loop by the turns that `Input::next` promises to leave fewer, which a `for` would not show; and
+    // a loop beside that of `picture`, which drops the answers.
     while 0 < input.held.turns {
         let fed = frames::feed(&mut engine, input.part(), &mut output);
-        let shown = show(rt, &output, fed.written, input.held.lines);
+        let answers = streams::first(fed.written, &output);
+        let shown = show(rt, answers, input.held.lines);
         input.next(
             rt,
             &mut source,

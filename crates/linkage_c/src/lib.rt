@@ -6,7 +6,7 @@
 // Every function answers for any contents of the arrays and any numbers.
 //
 // Kept: numbers for refusals, products and sessions, and arrays one by one. A caller in C has no other names
-// for them, and lends each function the arrays that it needs.
+// for them, and lends each function the arrays that it needs; two functions make `Parts` of all of them.
 #![tactic(auto)]
 
 mod asks;

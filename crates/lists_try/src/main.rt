@@ -16,9 +16,9 @@ const PIECE: usize = 1000;
 // left of it is kept, and more is read behind it.
 const ROOM: usize = LONGEST + 45;
 
-// Writes the first n bytes. Where they can't be written there is nobody to tell.
-fn show(rt: HostRuntime, bytes: &[u8], n: usize) {
-    let _ = rt.write_all(streams::first(n, bytes));
+// Writes answers. Where they can't be written there is nobody to tell.
+fn show(rt: HostRuntime, answers: &[u8]) {
+    let _ = rt.write_all(answers);
 }
 
 // Reads behind the first n bytes of a buffer, and gives the place behind what is read. A read that fails
@@ -39,11 +39,12 @@ fn is_at_end(len: usize, filled: usize, taken: usize) -> bool {
 fn end(rt: HostRuntime, len: usize) {
     let mut output = [0u8; ROOM];
     if let Some(n) = frames::finish(len, &mut output) {
-        show(rt, &output, n);
+        show(rt, streams::first(n, &output));
     }
 }
 
 // Runs the list in an open file, from a fresh engine.
+// Kept: a buffer and how much of it is filled, since `frames::keep` is tried here as a maker calls it.
 fn run(rt: HostRuntime, file: &mut File) {
     let mut engine = frames::fresh();
     let mut input = [0u8; PIECE];
@@ -52,7 +53,7 @@ fn run(rt: HostRuntime, file: &mut File) {
     for _ in 0..u64::MAX {
         let filled = read_behind(rt, file, &mut input, len);
         let fed = frames::feed(&mut engine, &input[..filled], &mut output);
-        show(rt, &output, fed.written);
+        show(rt, streams::first(fed.written, &output));
         let taken = fed.consumed;
         let is_last = is_at_end(len, filled, taken);
         len = frames::keep(&mut input, taken, filled);
@@ -63,6 +64,8 @@ fn run(rt: HostRuntime, file: &mut File) {
     end(rt, len);
 }
 
+// Kept beside the like loop of `traces_try`: a function for both would take a closure, and no public function
+// has a `requires`, which such a one needs.
 fn main(rt: HostRuntime) {
     let mut path = io::buffer();
     for i in 1..usize::MAX {

@@ -38,6 +38,7 @@ fn ending(len: usize) -> &'static [u8]
 
 // The answer to a line that has no line feed, of which this many bytes are there, from a place on. What
 // comes back is the place behind it; where there is no room, None.
+// Kept: a buffer and a place in it, as in `encoding`.
 #[tactic(auto, unfolding(crate::specs::Output::end_answer, crate::specs::Output::end_written))]
 pub fn write_end(len: usize, out: &mut [u8], at: usize) -> Option<usize>
     ensures { (result ≡ end_answer out.old at (ending len)) × (out.new ≡ end_written out.old at (ending len)) }

@@ -114,6 +114,8 @@ fn forwarding(page: &mut Page, flow: &Flow, from: usize, to: usize) -> fmt::Resu
 }
 
 // The databases of the reach that one of them forwards to.
+// Kept: a loop of this form stands three times. An iterator of the places of a set's members would be a
+// struct more, for three lines each.
 fn forwards_from(page: &mut Page, flow: &Flow, targets: u64, from: usize) -> fmt::Result {
     for (i, e) in Members(flow.reach).enumerate() {
         if sets::contains(targets, e) {

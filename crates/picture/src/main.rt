@@ -21,11 +21,6 @@ use model::Engine;
 use session::Session;
 use taking::{BUFFER, Input};
 
-// How many lines are carried out: those before, and one for each of the answers in the first n bytes.
-fn carried_out(lines: u64, answers: &[u8], n: usize) -> u64 {
-    streams::lines_and(lines, streams::first(n, answers))
-}
-
 // Carries out all frames of standard input. Their answers are dropped. Whether the input was read to its
 // end; where it wasn't, that is said.
 fn carry_out(rt: HostRuntime, engine: &mut Engine) -> bool {
@@ -35,7 +30,8 @@ fn carry_out(rt: HostRuntime, engine: &mut Engine) -> bool {
     // Kept: a loop by the turns that `Input::next` promises to leave fewer, which a `for` would not show.
     while 0 < input.held.turns {
         let fed = frames::feed(engine, input.part(), &mut output);
-        let lines = carried_out(input.held.lines, &output, fed.written);
+        let answers = streams::first(fed.written, &output);
+        let lines = streams::lines_and(input.held.lines, answers);
         input.next(
             rt,
             &mut source,

@@ -15,7 +15,7 @@ use tables::lent;
 // its role sets are looked at: a branch that leaves early costs more than they do.
 //
 // Kept: the count. With `filter` and `count` a list `reads` takes 22 in 100 more instructions and twice
-// the time.
+// the time. And the limit on the place, which is asked of the caller.
 #[tactic(auto, using(sets::proofs::Laws::count_none, sets::proofs::Laws::counted, sets::proofs::Laws::uncounted))]
 fn links(rolesets: &[u64; Engine::ROLE_SETS], deny: u64, held: u64, at: usize) -> bool
     requires { at < place_count }

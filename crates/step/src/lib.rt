@@ -31,6 +31,7 @@ pub struct Parts<'a> {
 
 impl Parts<'_> {
     // 09 and 0e: the number of a read's verdict, 0 where it is granted.
+    // Kept: a number, as `reading::number` gives it.
     pub fn number(
         &self,
         product: Product,

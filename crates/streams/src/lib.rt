@@ -45,6 +45,8 @@ pub struct Progress {
 }
 
 // n, or the length where n is more.
+// Kept: that a count is within its bytes is promised here and by each function below that gives one, since
+// the bytes are the caller's.
 pub fn within(n: usize, bytes: &[u8]) -> usize
     ensures prefix_len { IsPrefixLen result bytes.now }
     ensures value { result ≡ min n (length bytes.now) }
@@ -73,6 +75,8 @@ fn wait_out(rt: HostRuntime, failure: Error) -> Result<(), Error> {
 }
 
 // One read, made again as long as that may help.
+// Kept: so many turns at most, here and in `write_all`. A loop has to end, and what a descriptor gives does
+// not end it.
 fn read_some<R: Read>(rt: HostRuntime, source: &mut R, bytes: &mut [u8]) -> Result<usize, Error>
     ensures bound { ReadsAtMost result bytes.new }
     ensures bytes { ReadConsumes (R.remaining source.old) (R.remaining source.new) result bytes.new }
@@ -270,6 +274,7 @@ pub fn say_of(rt: HostRuntime, text: &mut [u8], what: &[u8], failure: Error) -> 
 
 // Says that something failed: two parts with a number between them, and the reason. The sentence is put
 // together first, at the start of a text that is lent. It gives how many bytes the sentence has there.
+// Kept: by hand and no `write!`, since every byte of the text is promised, also where it has no room.
 pub fn say_after(
     rt: HostRuntime,
     text: &mut [u8],
@@ -310,6 +315,7 @@ pub fn write_or_say<W: Write>(
 
 // Puts argument i at the start of a path that is lent, and gives how many bytes it has there, or nothing
 // where there is no such argument. One that is too long for the path counts as empty, and names no file.
+// Kept: so two things that can be wrong with it are said as one, by whoever opens the file.
 pub fn argument(rt: HostRuntime, i: usize, path: &mut [u8]) -> Option<usize>
     ensures { IfSome result (λ end. IsPrefixLen end path.new) }
 {

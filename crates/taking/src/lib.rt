@@ -32,6 +32,7 @@ pub struct Held {
 }
 
 // An input: the bytes that are read, and what is held of them.
+// Kept: an array and two places in it, between which the bytes are fed where they lie.
 #[derive(Drop)]
 pub struct Input {
     pub bytes: [u8; BUFFER],

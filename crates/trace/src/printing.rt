@@ -8,7 +8,8 @@ use arrayvec::ArrayVec;
 // How many bytes the longest line has.
 pub const WIDEST: usize = 17;
 
-// The line of an outcome. 16 is told by its two digits alone.
+// The line of an outcome. 16 is told by its two digits alone, pushed one by one: to extend by a slice could
+// fail.
 #[tactic(auto, using(crate::proofs::PrintedLines::agree_line), unfolding(crate::specs::Outcomes::printed))]
 pub fn printed_line(outcome: Outcome) -> ArrayVec<u8, WIDEST>
     ensures { result.items ≡ printed outcome }

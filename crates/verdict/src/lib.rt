@@ -38,7 +38,8 @@ pub fn first_of(
 }
 
 // The verdict that has this number.
-// Kept: 0 beside the refusals' `TryFrom`, and no `TryFrom` of its own, since every number has a verdict here.
+// Kept: a function and no `From`, which would have to stand in `model`, where the verdict is declared, with
+// the definition of what a number above 15 stands for.
 pub fn verdict_by(number: u64) -> Verdict
     ensures { result ≡ verdict_by number }
 {
