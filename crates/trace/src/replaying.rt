@@ -22,6 +22,8 @@ pub enum Outcome {
 }
 
 // Goes over a recorded run, from a fresh engine.
+// Kept: a place and a number that go on together. An iterator of pairs, to be counted, would be a second
+// reader beside `Trace`, and would have to say that a frame line is the last one.
 #[tactic(auto, using(crate::proofs::Going::too_long, crate::proofs::Going::line_within, crate::proofs::Going::going_last, crate::proofs::Going::written_within, crate::proofs::Going::going_end))]
 pub fn replay(text: &[u8]) -> Outcome
     ensures { result ≡ outcome text.now }
