@@ -12,7 +12,7 @@ use tables::Tables;
 pub type OldVersion = u16;
 
 // Who held and might read what, and since when. The tables have the rows that they have today.
-// Kept: the old structs stand by themselves and share nothing with today's, so that no change of those
+// Kept: the old structs stand by themselves and share no struct with today's, so that no change of those
 // reaches them: what is promised of carrying over speaks of the engine that there was. So they have its
 // arrays beside one another.
 #[derive(Clone, Copy)]

@@ -9,6 +9,7 @@ ghost use Rattle.digits.specs.Tables.{digit_table, high_table, low_table, pair_b
 pub const BYTES: usize = 256;
 
 // What stands in a table for a byte that is no digit.
+// Kept: a number and no `Option`, so that one test of a sum tells of both digits.
 const NO_DIGIT: u16 = 256;
 
 // The bytes that are digits, in the order of their values.

@@ -63,6 +63,7 @@ pub fn feed(parts: &mut Parts<'_>, input: &[u8], out: &mut [u8]) -> Fed
     let digits = decoding::Digits::new();
     let mut at = 0usize;
     let mut written = 0usize;
+    // Kept: a place that goes on by as much as each line has.
     while at < input.len() {
         if out.len() - written < LONGEST {
             break;

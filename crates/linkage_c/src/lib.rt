@@ -6,7 +6,8 @@
 // Every function answers for any contents of the arrays and any numbers.
 //
 // Kept: numbers for refusals, products and sessions, and arrays one by one. A caller in C has no other names
-// for them, and lends each function the arrays that it needs; two functions make `Parts` of all of them.
+// for them, and lends each function the arrays that it needs; two functions make `Parts` of all of them. 0 is
+// how many bytes there are where none is written.
 #![tactic(auto)]
 
 mod asks;

@@ -23,6 +23,7 @@ fn show(rt: HostRuntime, answers: &[u8]) {
 
 // Reads behind the first n bytes of a buffer, and gives the place behind what is read. A read that fails
 // reads nothing.
+// Kept: no `Result`, since a list ends where nothing more comes of it, whatever the reason.
 fn read_behind(rt: HostRuntime, file: &mut File, input: &mut [u8], n: usize) -> usize
     ensures { IsPrefixLen result input.new }
 {

@@ -23,6 +23,7 @@ use taking::{BUFFER, Input};
 
 // Carries out all frames of standard input. Their answers are dropped. Whether the input was read to its
 // end; where it wasn't, that is said.
+// Kept: a `bool` and no error, since nothing is left to say of it.
 fn carry_out(rt: HostRuntime, engine: &mut Engine) -> bool {
     let mut input = Input::new();
     let mut output = [0u8; BUFFER];

@@ -1,4 +1,5 @@
 // A read: checked and answered. Its session has here its number among those of both products.
+// Kept: tests one below the other, in the order of the refusal table; what comes back is a number.
 #![tactic(auto)]
 
 ghost use Rattle.std.specs.Prelude.{◌≡◌, List, ℕ, ◌<◌, ◌+◌, ◌*◌, get_or};

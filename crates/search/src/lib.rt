@@ -13,7 +13,7 @@ use model::Engine;
 // The roles of the users whose roles meet two of the sets. The search through the sets ends at the second
 // one found. A user whose roles are all found already can add none, and is passed over.
 //
-// Kept: two loops in one function, the inner one left by its label. The project's law names this form.
+// Kept: two loops in one function, the inner one left by its label. Document 01 names this form.
 pub fn conflicts(roles: &[u64; Engine::USERS], may: &[u64]) -> u64
     ensures { result ≡ conflicts_of roles.now may.now (length may.now) }
 {

@@ -12,6 +12,8 @@ use model::{Answer, Ask, Call, Change, Engine, Product, Refusal, Version};
 pub use sessions::session_at;
 
 // A whole engine in parts: who keeps them apart lends them one by one.
+// Kept: who is lent them promises too, each time, that they are the same references afterwards (`Same`). No
+// type says that of what it holds.
 #[derive(Drop)]
 pub struct Parts<'a> {
     pub roles: &'a mut [u64; Engine::USERS],
@@ -62,8 +64,9 @@ impl Parts<'_> {
     }
 }
 
-// The parts of an engine that is lent whole. A macro, since a function that handed them out would use the
-// engine's `&mut` while they are lent, and is refused.
+// The parts of an engine that is lent whole.
+// Kept as a macro: a function that handed them out would use the engine's `&mut` while they are lent, and is
+// refused.
 #[macro_export]
 macro_rules! parts_of {
     ($engine:ident) => {

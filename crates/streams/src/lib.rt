@@ -111,6 +111,7 @@ pub fn read_behind<R: Read>(
 }
 
 // Reads from a source until the bytes are full, the input ends, or it can't be read.
+// Kept: a place that goes on by as much as each read gives.
 #[tactic(auto, using(crate::proofs::Laws::read_on))]
 pub fn fill<R: Read>(rt: HostRuntime, source: &mut R, bytes: &mut [u8]) -> Progress
     ensures prefix_len { IsPrefixLen result.end bytes.new }

@@ -20,7 +20,7 @@ pub const BUFFER: usize = 65536;
 
 // What of the input is to be fed, from a place to the end of what is filled; how many lines are answered;
 // whether both streams are still open; and how many turns are left.
-// Kept as numbers and a flag: `Next` promises of each of them what it is after a turn, the number of lines
+// Kept as numbers and a flag: `Next` promises something of each of them by itself, of the number of lines
 // where a stream is closed too, and of the turns that each leaves fewer.
 #[derive(Clone, Copy)]
 pub struct Held {

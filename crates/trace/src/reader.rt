@@ -30,7 +30,7 @@ impl<'a> Trace<'a> {
     }
 
     // Hands out the next unread line, and has read it. At the end that is the empty part of the text.
-    // Kept: no `Option`, since the project's law wants each line as the part of the text that it is.
+    // Kept: no `Option`, since document 01 names this form: each line is a part of the text.
     #[tactic(auto, using(crate::proofs::Finding::line_fits))]
     pub fn next(&mut self) -> &'a [u8]
         ensures { (result.now ≡ line_at self.old.text.now self.old.at) × (self.new.text ≡ self.old.text) × (self.new.at ≡ self.old.at + length result.now) }
