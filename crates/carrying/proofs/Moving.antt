@@ -27,19 +27,19 @@ use Rattle.model.specs.Limits.{last_version}
 use Rattle.model.specs.State.{fresh}
 use Rattle.model.specs.Calls.{number_of, returned, verdict_of, Done, step, answer, verdict, after}
 use Rattle.model.specs.Ledger.{Ledger, start, linked}
-use Rattle.model.specs.Refusals.{due, spent, change_rows, ask_rows, check_rows, read_rows, rows, first_met, refusal, accepts, taken, ledger_step, ledger_after}
-use Rattle.model.specs.Demands.{seen, engine_after, engine_at, ledger_at, call_at, is_read}
+use Rattle.model.specs.Refusals.{due, spent, change_rows, ask_rows, check_rows, read_rows, rows, first_met, refusal, earlier_refusal, accepts, taken, ledger_step, ledger_after}
+use Rattle.model.specs.Demands.{seen, engine_after, engine_at, ledger_at, call_at, is_read, run_of, TwoReads}
 use Rattle.model.proofs.Invariants.{Sized}
 use Rattle.model.proofs.Chains.{Checked}
 use Rattle.model.proofs.SeenRows.{checked}
 use Rattle.model.proofs.Seen.{sized_fresh, sized_after, seen_fresh, seen_after, refused_number}
 use Rattle.model.proofs.Ledgers.{ledger_both}
 use Rattle.model.proofs.Lasting.{engine_both}
-use Rattle.model.proofs.Demands.{demand3, numbered}
+use Rattle.model.proofs.Demands.{told, demand3, numbered}
 use Rattle.model.proofs.Versions.{lacks, lacking, few_taken}
 use Rattle.carrying.specs.declared.OldEngine.{OldEngine}
 use Rattle.carrying.specs.Carrying.{carried_directory, carried_sessions, carried_over}
-use Rattle.carrying.specs.Moving.{old_last, old_of, old_after, old_at, old_refusal, old_ledger_step, old_ledger_after, moved_at, moved_ledger, last_at, moved_verdict, moved_refusal, Moved, Led}
+use Rattle.carrying.specs.Moving.{old_last, old_of, old_after, old_at, old_refusal, old_ledger_step, old_ledger_after, moved_at, moved_ledger, last_at, moved_run, Moved, Led}
 
 -- ---- row 9, which is the last row of a change
 
@@ -255,6 +255,13 @@ number_by last cs i Unreadable = (checked last (engine_at cs i) Unreadable).numb
 
 -- ---- a run that moves
 
+-- the verdict on a call i, and the first row that it meets by the ledger
+moved_verdict : List Call → List Call → ℕ → Call → Verdict
+moved_verdict cs ds i c = verdict_of (step (last_at cs i) (moved_at cs ds i) c).answer
+
+moved_refusal : List Call → List Call → ℕ → Call → ℕ
+moved_refusal cs ds i c = first_met (rows (last_at cs i) (moved_ledger cs ds i) (linked (moved_ledger cs ds i)) c)
+
 module _ (cs ds : List Call) where
   -- what is left of it
   all : List Call
@@ -315,27 +322,60 @@ module _ (cs ds : List Call) where
       go (yes l) = let w = left_of (call_at (cs ++ ds) i) (sym (old_call i l) ∙ h) in (w.0, rw (lt-ltb i (length cs) l, early_ledger i l) w.1)
       go (no n) = (sym (new_call i (omega (arith, n))) ∙ h, rw (le-ltb i (length cs) (omega (arith, n))))
 
+  -- a read that is granted is granted after the calls that are left
+  read_granted : (i : ℕ) (p : Product) (u s f d : ℕ) → call_at (cs ++ ds) i ≡ Read p u s f d → moved_verdict cs ds i (call_at (cs ++ ds) i) ≡ Granted → verdict (engine_at all i) (call_at all i) ≡ Granted
+  read_granted i p u s f d h v =
+      ap (verdict (engine_at all i)) (read_call i p u s f d h) ∙ sym (read_verdict i p u s f d) ∙ ap (moved_verdict cs ds i) (sym h) ∙ v
+
+  number_at : (i : ℕ) (c : Call) → returned (moved_verdict cs ds i c) ≡ moved_refusal cs ds i c
+  unfolding moved_verdict moved_refusal
+  number_at i c = rw (moved_engine i, moved_ledger_is i) (number_by (last_at cs i) all i c)
+
+  left_reads : TwoReads (moved_run cs ds) → TwoReads (run_of all)
+  unfolding moved_verdict
+  left_reads two = record {
+    i = two.i;
+    j = two.j;
+    earlier = two.earlier;
+    within = long two.j two.within;
+    product = two.product;
+    user = two.user;
+    session = two.session;
+    f = two.f;
+    g = two.g;
+    apart = two.apart;
+    d = two.d;
+    e = two.e;
+    asked = read_call two.i _ _ _ _ _ two.asked;
+    asked_later = read_call two.j _ _ _ _ _ two.asked_later;
+    granted = read_granted two.i _ _ _ _ _ two.asked two.granted;
+    granted_later = read_granted two.j _ _ _ _ _ two.asked_later two.granted_later;
+  }
+
   pub moved : Moved cs ds
-  unfolding accepts moved_verdict moved_refusal
+  unfolding moved_verdict moved_refusal returned left_reads
   moved = record {
     same = λ i. rw (moved_engine i, moved_ledger_is i) ((demand3 all).same i);
     numbered = λ i. number_at i (call_at (cs ++ ds) i);
-    accepting = λ i l h. ap (λ (n : ℕ). eqb n 0) (number_at i (call_at (cs ++ ds) i));
-    second = λ p i u s f d l h m r.
-        read_verdict i p u s f d
-        ∙ rw (← moved_ledger_is i) at ((demand3 all).second p i u s f d (long i l) (read_call i p u s f d h) (rw (moved_ledger_is i) at m) (rw (moved_ledger_is i) at r));
-    first = λ p i j u s f g d e l k a b n v w x y t z taken.
-        (demand3 all).first p i j u s f g d e l (long j k) (read_call i p u s f d a) (read_call j p u s g e b) n
-        (sym (read_verdict i p u s f d) ∙ v) (sym (read_verdict j p u s g e) ∙ w)
-        (rw (moved_ledger_is i) at x) (rw (moved_ledger_is j) at y)
-        (λ q. rw (moved_ledger_is j) at (t q)) (λ q. rw (moved_ledger_is i) at (z q))
-        (λ m c after before asked accepted.
-        let q = change_call m c asked in
-        rw (moved_ledger_is m) at (taken m c after before q.0 (ap (λ (r : ℕ). eqb r 0) q.1 ∙ rw (← moved_ledger_is m) at accepted)));
+    accepting = λ i l h. (λ v. sym (number_at i (call_at (cs ++ ds) i)) ∙ ap returned v, λ a. told _ false (number_at i (call_at (cs ++ ds) i) ∙ a));
+    second = λ one m r.
+        let asked = read_call one.i one.product one.user one.session one.flow one.database one.asked in
+        ap (moved_verdict cs ds one.i) one.asked
+        ∙ read_verdict one.i one.product one.user one.session one.flow one.database
+        ∙ ap (verdict (engine_at all one.i)) (sym asked)
+        ∙ rw (← moved_ledger_is one.i)
+        at ((demand3 all).second
+        (record { i = one.i; within = long one.i one.within; product = one.product; user = one.user; session = one.session; flow = one.flow; database = one.database; asked = asked })
+        (rw (moved_ledger_is one.i) at m) (rw (moved_ledger_is one.i) at (ap (earlier_refusal (moved_ledger cs ds one.i)) (asked ∙ sym one.asked) ∙ r)));
+    first = λ two w.
+        (demand3 all).first (left_reads two) (
+          record { later = λ q. rw (moved_ledger_is two.j) at (w.0.later q); earlier = λ q. rw (moved_ledger_is two.i) at (w.0.earlier q) },
+          λ k c after before asked accepted.
+              let q = change_call k c asked in
+              rw (moved_ledger_is k) at (w.1 k c after before q.0 (ap (moved_refusal cs ds k) q.0 ∙ q.1 ∙ ap (refusal (moved_ledger cs ds k)) (sym asked) ∙ rw (← moved_ledger_is k) at accepted)),
+          record { first = rw (moved_ledger_is two.i) at w.2.first; second = rw (moved_ledger_is two.j) at w.2.second },
+        );
   }
-    where
-      number_at : (i : ℕ) (c : Call) → returned (moved_verdict cs ds i c) ≡ moved_refusal cs ds i c
-      number_at i c = rw (moved_engine i, moved_ledger_is i) (number_by (last_at cs i) all i c)
 
 -- ---- what calls to the old engine lead to, calls to the engine lead to
 

@@ -1,21 +1,18 @@
 -- Request K4, over whole lists: calls to the engine of the old width, from a fresh one; it is carried over; then calls to the engine.
 -- The old engine is the calls' own text with the old width's last version in it, and so is its ledger. Statements; proofs/Moving has the theorems.
 -- Assumes nothing.
-use Rattle.std.specs.Prelude.{ℕ, suc, ◌-◌, ◌^◌, ◌≤◌, ◌<◌, ◌≡◌, true, false, cond, List, [], ◌∷◌, ◌++◌, ◌≢◌, ltb, eqb, length, take}
+use Rattle.std.specs.Prelude.{ℕ, suc, ◌-◌, ◌^◌, ◌≤◌, ◌≡◌, cond, List, [], ◌∷◌, ◌++◌, ◌≢◌, ltb, eqb, length, take}
 use Rattle.model.specs.declared.Engine.{Engine}
-use Rattle.model.specs.declared.calls.Refusal.TheVariants.{VersionsSpent, Linkable}
-use Rattle.model.specs.declared.calls.Change.{Change}
-use Rattle.model.specs.declared.calls.Product.{Product}
+use Rattle.model.specs.declared.calls.Refusal.TheVariants.{VersionsSpent}
 use Rattle.model.specs.declared.calls.Call.{Call}
-use Rattle.model.specs.declared.calls.Call.TheVariants.{Table, Read, Unreadable}
-use Rattle.model.specs.declared.calls.Verdict.{Verdict}
-use Rattle.model.specs.declared.calls.Verdict.TheVariants.{Granted, Refused}
+use Rattle.model.specs.declared.calls.Call.TheVariants.{Unreadable}
+use Rattle.model.specs.declared.calls.Verdict.TheVariants.{Refused}
 use Rattle.model.specs.Limits.{last_version}
 use Rattle.model.specs.State.{fresh}
-use Rattle.model.specs.Calls.{returned, verdict_of, step}
-use Rattle.model.specs.Ledger.{Ledger, start, flow_of, holds_denied, linked, under_mandate}
-use Rattle.model.specs.Refusals.{rows, first_met, earlier_refusal, taken, ledger_after}
-use Rattle.model.specs.Demands.{seen, engine_after, engine_at, call_at, is_read, takes_from}
+use Rattle.model.specs.Calls.{verdict_of, step}
+use Rattle.model.specs.Ledger.{Ledger, start, linked}
+use Rattle.model.specs.Refusals.{rows, first_met, taken, ledger_after}
+use Rattle.model.specs.Demands.{engine_after, engine_at, call_at, Run, Demand3}
 use Rattle.carrying.specs.declared.OldEngine.{OldEngine}
 use Rattle.carrying.specs.Carrying.{carried_over}
 
@@ -64,30 +61,20 @@ moved_ledger cs ds i = ledger_after (old_ledger_after start (take i cs)) (take (
 unfoldable pub last_at : List Call → ℕ → ℕ
 last_at cs i = cond (ltb i (length cs)) old_last last_version
 
--- the verdict on it, and the first row that it meets by the ledger
-unfoldable pub moved_verdict : List Call → List Call → ℕ → Call → Verdict
-moved_verdict cs ds i c = verdict_of (step (last_at cs i) (moved_at cs ds i) c).answer
+-- what demand 3 speaks of
+abbrev pub moved_run : List Call → List Call → Run
+moved_run cs ds = record {
+  calls = length (cs ++ ds);
+  call = call_at (cs ++ ds);
+  engine = moved_at cs ds;
+  ledger = moved_ledger cs ds;
+  verdict = λ i. verdict_of (step (last_at cs i) (moved_at cs ds i) (call_at (cs ++ ds) i)).answer;
+  refusal = λ i. first_met (rows (last_at cs i) (moved_ledger cs ds i) (linked (moved_ledger cs ds i)) (call_at (cs ++ ds) i));
+}
 
-unfoldable pub moved_refusal : List Call → List Call → ℕ → Call → ℕ
-moved_refusal cs ds i c = first_met (rows (last_at cs i) (moved_ledger cs ds i) (linked (moved_ledger cs ds i)) c)
-
--- demand 3 of such a run, field by field as in `Demand3`
-pub record Moved (cs ds : List Call) : Type 0 where
-  pub same : (i : ℕ) → seen (moved_at cs ds i) ≡ moved_ledger cs ds i
-  pub numbered : (i : ℕ) → returned (moved_verdict cs ds i (call_at (cs ++ ds) i)) ≡ moved_refusal cs ds i (call_at (cs ++ ds) i)
-  pub accepting : (i : ℕ) → i < length (cs ++ ds) → is_read (call_at (cs ++ ds) i) ≡ false
-      → eqb (returned (moved_verdict cs ds i (call_at (cs ++ ds) i))) 0 ≡ eqb (moved_refusal cs ds i (call_at (cs ++ ds) i)) 0
-  pub second : (p : Product) (i u s f d : ℕ) → i < length (cs ++ ds) → call_at (cs ++ ds) i ≡ Read p u s f d
-      → under_mandate (moved_ledger cs ds i) u d ≡ false → earlier_refusal (moved_ledger cs ds i) (Read p u s f d) ≡ 0
-      → moved_verdict cs ds i (Read p u s f d) ≡ cond (linked (moved_ledger cs ds i) p u s f) (Refused Linkable) Granted
-  pub first : (p : Product) (i j u s f g d e : ℕ) → i < j → j < length (cs ++ ds)
-      → call_at (cs ++ ds) i ≡ Read p u s f d → call_at (cs ++ ds) j ≡ Read p u s g e → f ≢ g
-      → moved_verdict cs ds i (Read p u s f d) ≡ Granted → moved_verdict cs ds j (Read p u s g e) ≡ Granted
-      → under_mandate (moved_ledger cs ds i) u d ≡ false → under_mandate (moved_ledger cs ds j) u e ≡ false
-      → (f < g → holds_denied (moved_ledger cs ds j) u (flow_of (moved_ledger cs ds j) p s g) ≡ true)
-      → (g < f → holds_denied (moved_ledger cs ds i) u (flow_of (moved_ledger cs ds i) p s f) ≡ true)
-      → ((k : ℕ) (c : Change) → i < k → k < j → call_at (cs ++ ds) k ≡ Table c → eqb (moved_refusal cs ds k (Table c)) 0 ≡ true → takes_from (moved_ledger cs ds k) u c ≡ false)
-      → ⊥
+-- demand 3 of such a run
+abbrev pub Moved : List Call → List Call → Type 0
+Moved cs ds = Demand3 (moved_run cs ds)
 
 -- ---- any other promise about lists goes on too: what calls to the old engine lead to, calls to the engine lead to
 

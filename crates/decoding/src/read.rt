@@ -9,10 +9,10 @@ use super::lines;
 use digits::Digits;
 use kinds::{Fields, Kind};
 use model::Call;
-use protocol::{KEPT, SET_DIGITS};
+use protocol::{FIELD_DIGITS, KEPT, SET_DIGITS};
 
 // How many digits an addition's fields have, and how many pairs of them are its role set.
-const ADDITION: usize = 2 * 2 + SET_DIGITS;
+const ADDITION: usize = 2 * FIELD_DIGITS + SET_DIGITS;
 
 const SET_PAIRS: usize = SET_DIGITS / 2;
 

@@ -15,7 +15,7 @@ ghost use Rattle.encoding.specs.Written.{Wrote, Puts, constraint_of, line_answer
 
 use model::{Answer, Constraint, Engine, Version};
 pub use output::write_end;
-use protocol::{LONGEST, SET_DIGITS, VERSION_DIGITS};
+use protocol::{FIELD_DIGITS, LONGEST, SET_DIGITS, VERSION_DIGITS};
 
 // A constraint's parts where they lie.
 // Kept: `model::Constraint` has its role sets in itself, and to copy them for each answer takes 3
@@ -26,9 +26,6 @@ struct Shown<'a> {
     deny: u64,
     roles: &'a [u64; Engine::FLOWS],
 }
-
-// How many digits a line begins with, and a field has.
-const FIELD_DIGITS: usize = 2;
 
 // The last N digits of v, written from the last one, which needs no power of 16. Since N is known where
 // it is compiled, no loop is left of it.

@@ -5,22 +5,19 @@ use mathlib.Core.Path.{◌≡◌, refl, sym, ap, ◌∙◌}
 use mathlib.Core.Bool.{Bool, true, false, cond}
 use mathlib.Core.List.{List, [], ◌∷◌}
 use native.Mathlib.Omega.{arith}
-use lib.Dec.{eqb}
 use lib.ListN.{take}
-use borrow.Author.Tests.{eqb-false}
+use borrow.Author.Tests.{eqb-true, eqb-false}
 use Rattle.model.specs.declared.Engine.{Engine}
 use Rattle.model.specs.declared.calls.Refusal.{Refusal}
 use Rattle.model.specs.declared.calls.Refusal.TheVariants.{Malformed, AboveLimit, AlreadyThere, NotThere, FlowAdded, NotOpen, SessionFull, NotConflicting, VersionsSpent, NoSuchFlow, OutOfReach, NoPermission, Changed, Linkable, Mandated}
-use Rattle.model.specs.declared.calls.Product.{Product}
 use Rattle.model.specs.declared.calls.Call.{Call}
-use Rattle.model.specs.declared.calls.Call.TheVariants.{Read}
 use Rattle.model.specs.declared.calls.Verdict.{Verdict}
 use Rattle.model.specs.declared.calls.Verdict.TheVariants.{Granted, Refused}
 use Rattle.model.specs.State.{fresh}
 use Rattle.model.specs.Calls.{number_of, returned, verdict, after}
 use Rattle.model.specs.Ledger.{Ledger, start, linked}
-use Rattle.model.specs.Refusals.{refusal, accepts, ledger_step, ledger_after}
-use Rattle.model.specs.Demands.{Demand3, seen, engine_after, engine_at, ledger_at, call_at}
+use Rattle.model.specs.Refusals.{refusal, earlier_refusal, accepts, ledger_step, ledger_after}
+use Rattle.model.specs.Demands.{Demand3, seen, engine_after, engine_at, ledger_at, call_at, run_of}
 use Rattle.model.proofs.Invariants.{Sized}
 use Rattle.model.proofs.Ledgers.{last_row, first_half}
 use Rattle.model.proofs.Kept.{Kept, kept_fresh, kept_after, number_told}
@@ -78,17 +75,24 @@ told (Refused why) false h = absurd (eqb-false (number_of why) 0 (refused_number
 
 -- ---- the demand
 
--- a granted read meets no row of the ledger
-none_met : (cs : List Call) (p : Product) (i u s f d : ℕ) → verdict (engine_at cs i) (Read p u s f d) ≡ Granted → refusal (ledger_at cs i) (Read p u s f d) ≡ 0
+-- a call that is granted meets no row of the ledger
+none_met : (cs : List Call) (i : ℕ) (c : Call) → call_at cs i ≡ c → verdict (engine_at cs i) (call_at cs i) ≡ Granted → refusal (ledger_at cs i) c ≡ 0
 unfolding returned
-none_met cs p i u s f d v = sym (numbered cs i (Read p u s f d)) ∙ ap returned v
+none_met cs i c h v = ap (refusal (ledger_at cs i)) (sym h) ∙ sym (numbered cs i (call_at cs i)) ∙ ap returned v
 
-pub demand3 : (cs : List Call) → Demand3 cs
-unfolding accepts
+pub demand3 : (cs : List Call) → Demand3 (run_of cs)
+unfolding accepts returned
 demand3 cs = record {
   same = λ i. (agree cs i).same;
   numbered = λ i. numbered cs i (call_at cs i);
-  accepting = λ i l h. ap (λ (n : ℕ). eqb n 0) (numbered cs i (call_at cs i));
-  second = λ p i u s f d l c o r. told (verdict (engine_at cs i) (Read p u s f d)) (linked (ledger_at cs i) p u s f) (numbered cs i (Read p u s f d) ∙ last_row (ledger_at cs i) p u s f d o r);
-  first = λ p i j u s f g d e l m x y n v w o q a b k. first_half cs p i j u s f g d e l m x y n (none_met cs p i u s f d v) (none_met cs p j u s g e w) o q a b k;
+  accepting = λ i l h. (λ v. sym (numbered cs i (call_at cs i)) ∙ ap returned v, λ a. told _ false (numbered cs i (call_at cs i) ∙ a));
+  second = λ one o r.
+      let l : Ledger = ledger_at cs one.i in
+      told _ (linked l one.product one.user one.session one.flow)
+      (numbered cs one.i (call_at cs one.i) ∙ ap (refusal l) one.asked
+      ∙ last_row l one.product one.user one.session one.flow one.database o (ap (earlier_refusal l) (sym one.asked) ∙ r));
+  first = λ two w.
+      first_half cs two.product two.i two.j two.user two.session two.f two.g two.d two.e two.earlier two.within two.asked two.asked_later two.apart
+      (none_met cs two.i _ two.asked two.granted) (none_met cs two.j _ two.asked_later two.granted_later) w.2.first w.2.second w.0.later w.0.earlier
+      (λ k c a b t v. w.1 k c a b t (ap (refusal (ledger_at cs k)) t ∙ eqb-true _ 0 v));
 }

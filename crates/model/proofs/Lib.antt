@@ -1,4 +1,5 @@
 pub mod Laws
+pub mod Limits
 pub mod Apart
 pub mod Alike
 pub mod Invariants
@@ -12,6 +13,7 @@ pub mod Meaning
 pub mod Lasting
 pub mod Steps
 pub mod Kept
+pub mod Table
 pub mod Demands
 pub mod MandateCalls
 pub mod Mandates

@@ -167,6 +167,6 @@ outside cs n i u d =
 pub before : (cs : List Call) → NoMandate cs → Before cs
 before cs n = record {
   outside = outside cs n;
-  second = λ p i u s f d l c. (demand3 cs).second p i u s f d l c (outside cs n i u d);
-  first = λ p i j u s f g d e l m x y t v w. (demand3 cs).first p i j u s f g d e l m x y t v w (outside cs n i u d) (outside cs n j u e);
+  second = λ one t. (demand3 cs).second one (outside cs n one.i one.user one.database);
+  first = λ two w. (demand3 cs).first two (w.0, w.1, record { first = outside cs n two.i two.user two.d; second = outside cs n two.j two.user two.e });
 }

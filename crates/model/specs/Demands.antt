@@ -1,7 +1,7 @@
 -- The client's demands 1 and 3. An engine is told of by its answers and the engine after each call, which the contracts promise of the code,
 -- and by what a ledger sees of it: nobody has to read how Calls works them out.
 -- Assumes nothing.
-use Rattle.std.specs.Prelude.{ℕ, zero, suc, ◌<◌, ◌≡◌, Bool, true, false, cond, ◌&&◌, List, [], ◌∷◌, ◌++◌, ◌≢◌, ltb, eqb, length, get_or, take}
+use Rattle.std.specs.Prelude.{ℕ, zero, suc, ◌<◌, ◌≡◌, Bool, true, false, cond, ◌&&◌, List, [], ◌∷◌, ◌++◌, ◌≢◌, ◌↔◌, ltb, eqb, length, get_or, take}
 use Rattle.sets.specs.Sets.{has, count}
 use Rattle.tables.specs.Tables.{role_count, database_count, holds, may_read, forwards_to, has_mandate}
 use Rattle.model.specs.declared.Engine.{Engine}
@@ -15,13 +15,14 @@ use Rattle.model.specs.declared.calls.Product.{Product}
 use Rattle.model.specs.declared.calls.Ask.TheVariants.{Open, Conflicting, Add, Show}
 use Rattle.model.specs.declared.calls.Call.{Call}
 use Rattle.model.specs.declared.calls.Call.TheVariants.{Table, Session, Read, Unreadable}
+use Rattle.model.specs.declared.calls.Verdict.{Verdict}
 use Rattle.model.specs.declared.calls.Verdict.TheVariants.{Granted, Refused}
 use Rattle.model.specs.Limits.{last_version}
 use Rattle.model.specs.State.{fresh, session_at, place}
 use Rattle.model.specs.Calls.{returned, links, answer, verdict, after, flows_in}
 use Rattle.model.specs.Ledger.{Ledger, start, flow_of, reach_of, is_conflicting, holds_denied, linked, under_mandate}
 use Rattle.model.specs.Ledger.{Flow as Flow·}
-use Rattle.model.specs.Refusals.{rows, first_met, refusal, earlier_refusal, accepts, new_flow, ledger_after}
+use Rattle.model.specs.Refusals.{rows, first_met, refusal, earlier_refusal, new_flow, ledger_after}
 
 -- ---- an engine as a ledger sees it: its sessions are those of both products, session s of product p with the number `session_at p s`
 
@@ -110,30 +111,100 @@ takes_from l u (Revoke r d) = l.holds u r
 takes_from l u (Forward d e) = false
 takes_from l u (Mandate r d) = false
 
--- One claim about a whole list of calls.
-pub record Demand3 (cs : List Call) : Type 0 where
+-- What the demand speaks of. Of call i: the call, the engine and the ledger just before it, the engine's verdict, and the number of the first row that it meets by the ledger.
+pub record Run : Type 0 where
+  pub calls : ℕ
+  pub call : ℕ → Call
+  pub engine : ℕ → Engine
+  pub ledger : ℕ → Ledger
+  pub verdict : ℕ → Verdict
+  pub refusal : ℕ → ℕ
+
+-- a list of calls on an engine that is fresh at the start
+abbrev pub run_of : List Call → Run
+run_of cs = record {
+  calls = length cs;
+  call = call_at cs;
+  engine = engine_at cs;
+  ledger = ledger_at cs;
+  verdict = λ i. verdict (engine_at cs i) (call_at cs i);
+  refusal = λ i. refusal (ledger_at cs i) (call_at cs i);
+}
+
+-- the ledger accepts call i
+abbrev pub Accepted : Run → ℕ → Type 0
+Accepted run i = run.refusal i ≡ 0
+
+-- ---- its second half
+
+-- call i is a read
+pub record OneRead (run : Run) : Type 0 where
+  pub i : ℕ
+  pub within : i < run.calls
+  pub product : Product
+  pub user : ℕ
+  pub session : ℕ
+  pub flow : ℕ
+  pub database : ℕ
+  pub asked : run.call i ≡ Read product user session flow database
+
+-- "a read that meets no earlier row is refused as linkable exactly when its user, by the tables of that moment, holds a role of the flow's deny set
+-- and may read at least two flows of the session, counted up to and including that one; otherwise it is granted", where this is so of it
+abbrev pub SecondHalf : (run : Run) → (OneRead run → Type 0) → Type 0
+SecondHalf run Premise = (one : OneRead run) → Premise one → earlier_refusal (run.ledger one.i) (run.call one.i) ≡ 0
+    → run.verdict one.i ≡ cond (linked (run.ledger one.i) one.product one.user one.session one.flow) (Refused Linkable) Granted
+
+-- "The exact rule for 'linkable' covers reads outside a mandate" (K3)
+abbrev pub OutsideMandate : {run : Run} → OneRead run → Type 0
+OutsideMandate {run} one = under_mandate (run.ledger one.i) one.user one.database ≡ false
+
+-- ---- its first half
+
+-- "granted reads of two flows of one session" by one user, "in either order", "of one product's session" (K1): call i of flow f at database d, and later call j of flow g at database e
+pub record TwoReads (run : Run) : Type 0 where
+  pub i : ℕ
+  pub j : ℕ
+  pub earlier : i < j
+  pub within : j < run.calls
+  pub product : Product
+  pub user : ℕ
+  pub session : ℕ
+  pub f : ℕ
+  pub g : ℕ
+  pub apart : f ≢ g
+  pub d : ℕ
+  pub e : ℕ
+  pub asked : run.call i ≡ Read product user session f d
+  pub asked_later : run.call j ≡ Read product user session g e
+  pub granted : run.verdict i ≡ Granted
+  pub granted_later : run.verdict j ≡ Granted
+
+-- there are no such reads of which this is so
+abbrev pub FirstHalf : (run : Run) → (TwoReads run → Type 0) → Type 0
+FirstHalf run Premises = (two : TwoReads run) → Premises two → ⊥
+
+-- "at the read of the flow added later the user holds a role of its deny set"
+pub record HoldsDenied {run : Run} (two : TwoReads run) : Type 0 where
+  pub later : two.f < two.g → holds_denied (run.ledger two.j) two.user (flow_of (run.ledger two.j) two.product two.session two.g) ≡ true
+  pub earlier : two.g < two.f → holds_denied (run.ledger two.i) two.user (flow_of (run.ledger two.i) two.product two.session two.f) ≡ true
+
+-- "between the two reads no role was withdrawn from the user and no permission from a role the user then held"; "Only accepted withdrawals and revocations count"
+abbrev pub NothingTaken : {run : Run} → TwoReads run → Type 0
+NothingTaken {run} two = (k : ℕ) (c : Change) → two.i < k → k < two.j → run.call k ≡ Table c → Accepted run k → takes_from (run.ledger k) two.user c ≡ false
+
+-- "neither read was made under a mandate" (K3)
+pub record OutsideMandates {run : Run} (two : TwoReads run) : Type 0 where
+  pub first : under_mandate (run.ledger two.i) two.user two.d ≡ false
+  pub second : under_mandate (run.ledger two.j) two.user two.e ≡ false
+
+-- ---- one claim about a whole run
+
+pub record Demand3 (run : Run) : Type 0 where
   -- the engine holds what the ledger holds
-  pub same : (i : ℕ) → seen (engine_at cs i) ≡ ledger_at cs i
+  pub same : (i : ℕ) → seen (run.engine i) ≡ run.ledger i
   -- the number that each call returns, reads included, is that of the ledger's first row
-  pub numbered : (i : ℕ) → returned (verdict (engine_at cs i) (call_at cs i)) ≡ refusal (ledger_at cs i) (call_at cs i)
+  pub numbered : (i : ℕ) → returned (run.verdict i) ≡ run.refusal i
   -- "the engine accepts a call other than a read exactly when the ledger does"
-  pub accepting : (i : ℕ) → i < length cs → is_read (call_at cs i) ≡ false
-      → eqb (returned (verdict (engine_at cs i) (call_at cs i))) 0 ≡ accepts (ledger_at cs i) (call_at cs i)
-  -- second half: "a read that meets no earlier row is refused as linkable exactly when its user, by the tables of that moment, holds a role
-  -- of the flow's deny set and may read at least two flows of the session, counted up to and including that one; otherwise it is granted".
-  -- "The exact rule for 'linkable' covers reads outside a mandate" (K3)
-  pub second : (p : Product) (i u s f d : ℕ) → i < length cs → call_at cs i ≡ Read p u s f d
-      → under_mandate (ledger_at cs i) u d ≡ false → earlier_refusal (ledger_at cs i) (Read p u s f d) ≡ 0
-      → verdict (engine_at cs i) (Read p u s f d) ≡ cond (linked (ledger_at cs i) p u s f) (Refused Linkable) Granted
-  -- first half: "no user is granted reads of two flows of one session", "of one product's session" (K1). The two reads are call i and call j, of flows f and g.
-  pub first : (p : Product) (i j u s f g d e : ℕ) → i < j → j < length cs
-      → call_at cs i ≡ Read p u s f d → call_at cs j ≡ Read p u s g e → f ≢ g
-      → verdict (engine_at cs i) (Read p u s f d) ≡ Granted → verdict (engine_at cs j) (Read p u s g e) ≡ Granted
-      -- "neither read was made under a mandate" (K3)
-      → under_mandate (ledger_at cs i) u d ≡ false → under_mandate (ledger_at cs j) u e ≡ false
-      -- "at the read of the flow added later the user holds a role of its deny set"
-      → (f < g → holds_denied (ledger_at cs j) u (flow_of (ledger_at cs j) p s g) ≡ true)
-      → (g < f → holds_denied (ledger_at cs i) u (flow_of (ledger_at cs i) p s f) ≡ true)
-      -- "between the two reads no role was withdrawn from the user and no permission from a role the user then held"; "Only accepted withdrawals and revocations count"
-      → ((k : ℕ) (c : Change) → i < k → k < j → call_at cs k ≡ Table c → accepts (ledger_at cs k) (Table c) ≡ true → takes_from (ledger_at cs k) u c ≡ false)
-      → ⊥
+  pub accepting : (i : ℕ) → i < run.calls → is_read (run.call i) ≡ false → (run.verdict i ≡ Granted) ↔ Accepted run i
+  pub second : SecondHalf run OutsideMandate
+  pub first : FirstHalf run (λ two. HoldsDenied two × NothingTaken two × OutsideMandates two)

@@ -3,6 +3,7 @@ pub mod State
 pub mod Calls
 pub mod Ledger
 pub mod Refusals
+pub mod Table
 pub mod Demands
 pub mod Meaning
 pub mod Lasting

@@ -1,15 +1,28 @@
--- Document 01, "Things and their limits". Users, roles and databases have theirs in `tables`.
+-- "Things and their limits". Each stands once, as a constant of the code; users, roles and databases have theirs in `tables`. `Limits` says the numbers.
 -- Assumes nothing.
-use Rattle.std.specs.Prelude.{ℕ}
+use Rattle.std.specs.Prelude.{ℕ, ◌≡◌}
+use Rattle.tables.specs.Tables.{user_count, role_count, database_count}
+use Rattle.model.specs.declared.TheConstants.Engine.{SESSIONS, FLOWS, LAST_VERSION}
 
--- "sessions 0–15", and by K1 "Each has sixteen sessions of its own"
+-- sessions of each product
 abbrev pub session_count : ℕ
-session_count = 16
+session_count = SESSIONS
 
--- "at most 8 flows a session numbered 0–7 in order of addition"
+-- flows of a session
 abbrev pub flow_count : ℕ
-flow_count = 8
+flow_count = FLOWS
 
--- "Versions become 32 bits, .. the limit 4294967295" (K4)
 abbrev pub last_version : ℕ
-last_version = 4294967295
+last_version = LAST_VERSION
+
+pub record Limits : Type 0 where
+  -- "Users 0–255, roles 0–63, databases 0–63"
+  pub users : user_count ≡ 256
+  pub roles : role_count ≡ 64
+  pub databases : database_count ≡ 64
+  -- "sessions 0–15" of each product
+  pub sessions : session_count ≡ 16
+  -- "at most 8 flows a session numbered 0–7 in order of addition"
+  pub flows : flow_count ≡ 8
+  -- "versions 0–4294967295"
+  pub versions : last_version ≡ 4294967295

@@ -1,18 +1,17 @@
 -- Request K3, reading by duty: what holds of mandates over whole lists of calls from a fresh engine. Statements alone; proofs/Mandates has the theorems.
 -- Assumes nothing.
-use Rattle.std.specs.Prelude.{ℕ, ◌≤◌, ◌<◌, ◌≡◌, true, false, cond, List, ◌↔◌, ◌≢◌, length}
+use Rattle.std.specs.Prelude.{ℕ, ◌≤◌, ◌<◌, ◌≡◌, true, false, List, ◌↔◌, ⊤, length}
 use Rattle.tables.specs.Tables.{role_count, database_count, may_read, has_mandate}
-use Rattle.model.specs.declared.calls.Refusal.TheVariants.{Linkable, Mandated}
-use Rattle.model.specs.declared.calls.Change.{Change}
+use Rattle.model.specs.declared.calls.Refusal.TheVariants.{Mandated}
 use Rattle.model.specs.declared.calls.Change.TheVariants.{Revoke, Mandate}
 use Rattle.model.specs.declared.calls.Product.{Product}
 use Rattle.model.specs.declared.calls.Call.{Call}
 use Rattle.model.specs.declared.calls.Call.TheVariants.{Table, Read}
 use Rattle.model.specs.declared.calls.Verdict.TheVariants.{Granted, Refused}
 use Rattle.model.specs.Calls.{verdict}
-use Rattle.model.specs.Ledger.{flow_of, holds_denied, linked, under_mandate}
-use Rattle.model.specs.Refusals.{check_rows, first_met, earlier_refusal, accepts}
-use Rattle.model.specs.Demands.{call_at, engine_at, ledger_at, takes_from}
+use Rattle.model.specs.Ledger.{under_mandate}
+use Rattle.model.specs.Refusals.{check_rows, first_met, accepts}
+use Rattle.model.specs.Demands.{call_at, engine_at, ledger_at, run_of, SecondHalf, FirstHalf, HoldsDenied, NothingTaken}
 use Rattle.model.specs.Steps.{tables_at}
 
 pub record Mandates (cs : List Call) : Type 0 where
@@ -38,13 +37,5 @@ NoMandate cs = (i r d : ℕ) → call_at cs i ≡ Table (Mandate r d) → accept
 -- of them the halves of demand 3 say what they said before K3
 pub record Before (cs : List Call) : Type 0 where
   pub outside : (i u d : ℕ) → under_mandate (ledger_at cs i) u d ≡ false
-  pub second : (p : Product) (i u s f d : ℕ) → i < length cs → call_at cs i ≡ Read p u s f d
-      → earlier_refusal (ledger_at cs i) (Read p u s f d) ≡ 0
-      → verdict (engine_at cs i) (Read p u s f d) ≡ cond (linked (ledger_at cs i) p u s f) (Refused Linkable) Granted
-  pub first : (p : Product) (i j u s f g d e : ℕ) → i < j → j < length cs
-      → call_at cs i ≡ Read p u s f d → call_at cs j ≡ Read p u s g e → f ≢ g
-      → verdict (engine_at cs i) (Read p u s f d) ≡ Granted → verdict (engine_at cs j) (Read p u s g e) ≡ Granted
-      → (f < g → holds_denied (ledger_at cs j) u (flow_of (ledger_at cs j) p s g) ≡ true)
-      → (g < f → holds_denied (ledger_at cs i) u (flow_of (ledger_at cs i) p s f) ≡ true)
-      → ((k : ℕ) (c : Change) → i < k → k < j → call_at cs k ≡ Table c → accepts (ledger_at cs k) (Table c) ≡ true → takes_from (ledger_at cs k) u c ≡ false)
-      → ⊥
+  pub second : SecondHalf (run_of cs) (λ one. ⊤)
+  pub first : FirstHalf (run_of cs) (λ two. HoldsDenied two × NothingTaken two)

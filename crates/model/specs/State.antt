@@ -9,6 +9,7 @@ use Rattle.tables.specs.Tables.{fresh as empty_tables}
 use Rattle.model.specs.declared.Directory.{Directory}
 use Rattle.model.specs.declared.Sessions.{Sessions}
 use Rattle.model.specs.declared.Engine.{Engine}
+use Rattle.model.specs.declared.TheConstants.Engine.{PRODUCTS, ALL_SESSIONS, PLACES, ROLE_SETS}
 use Rattle.model.specs.declared.calls.Product.{Product}
 use Rattle.model.specs.declared.calls.Product.TheVariants.{Server, TermBank}
 use Rattle.model.specs.Limits.{session_count, flow_count}
@@ -17,10 +18,10 @@ use Rattle.model.specs.Limits.{session_count, flow_count}
 
 -- how many products there are, and how many sessions
 abbrev pub product_count : ℕ
-product_count = 2
+product_count = PRODUCTS
 
 abbrev pub all_sessions : ℕ
-all_sessions = product_count * session_count
+all_sessions = ALL_SESSIONS
 
 -- the number among them of a product's first one
 unfoldable pub first_of : Product → ℕ
@@ -33,10 +34,10 @@ session_at p s = cond (ltb s session_count) (first_of p + s) all_sessions
 
 -- how many places there are for flows in all sessions, and for role sets in all their constraints
 abbrev pub place_count : ℕ
-place_count = all_sessions * flow_count
+place_count = PLACES
 
 abbrev pub role_set_count : ℕ
-role_set_count = place_count * flow_count
+role_set_count = ROLE_SETS
 
 -- ---- records of lent arrays
 

@@ -1,4 +1,5 @@
 pub mod Laws
+pub mod Widths
 pub mod Products
 pub mod Spelling
 pub mod Saying

@@ -4,7 +4,7 @@ use Rattle.std.specs.Prelude.{ℕ, suc, ◌-◌, ◌≤◌, ◌<◌, ◌≡◌, 
 use Rattle.model.specs.declared.Engine.{Engine}
 use Rattle.model.specs.Limits.{last_version}
 use Rattle.model.specs.State.{fresh}
-use Rattle.model.specs.Demands.{Demand1, Demand3, call_at, engine_at}
+use Rattle.model.specs.Demands.{Demand1, Demand3, call_at, engine_at, run_of}
 use Rattle.protocol.specs.Specification.{version, Output}
 use Rattle.protocol.specs.Widths.{longest}
 use Rattle.protocol.specs.Run.{calls_of, reply, replies, run, Fed, wrote, fed, feed_at, kept_of, finish}
@@ -22,7 +22,7 @@ pub record VersionsTold : Type 0 where
 -- each line of an input is the call that it reads as, and the demands hold of that list of calls
 pub record ByteDemands (input : List ℕ) : Type 0 where
   -- demand 3 of the calls that the lines are
-  pub three : Demand3 (calls_of input)
+  pub three : Demand3 (run_of (calls_of input))
   -- demand 1 of each of them, on the engine as the lines before left it
   pub one : (i : ℕ) → i < length (calls_of input) → Demand1 (engine_at (calls_of input) i) (call_at (calls_of input) i)
   -- and what the program writes has that call's answer in its place

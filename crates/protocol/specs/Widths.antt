@@ -1,25 +1,37 @@
--- How many hexadecimal digits things have (document 01, "Frames").
+-- How many hexadecimal digits things have ("Frames"). Each width stands once, as a constant of the code. `Widths` says the numbers.
 -- Assumes nothing.
-use Rattle.std.specs.Prelude.{ℕ, ◌+◌, ◌*◌, ◌/◌}
-use Rattle.tables.specs.Tables.{role_count}
+use Rattle.std.specs.Prelude.{ℕ, suc, ◌+◌, ◌*◌, ◌≡◌}
 use Rattle.model.specs.Limits.{flow_count}
+use Rattle.protocol.specs.declared.TheConstants.{FIELD_DIGITS, VERSION_DIGITS, SET_DIGITS, KEPT, LONGEST}
 
--- the kind and each field: "two digits each"
+-- of the kind and of each field
 abbrev pub field_digits : ℕ
-field_digits = 2
+field_digits = FIELD_DIGITS
 
--- "Versions become 32 bits, eight digits in every answer" (K4)
+-- of a version
 abbrev pub version_digits : ℕ
-version_digits = 8
+version_digits = VERSION_DIGITS
 
--- "M is sixteen digits, a role set": four roles a digit
+-- of a role set
 abbrev pub set_digits : ℕ
-set_digits = role_count / 4
+set_digits = SET_DIGITS
 
--- the longest frame, 08 ss dd M; one byte more tells a line from every frame
+-- how many bytes are kept of a line that has no line feed yet
 abbrev pub kept : ℕ
-kept = field_digits * 3 + set_digits + 1
+kept = KEPT
 
--- the longest answer line, a constraint with a role set for each flow, and its line feed
+-- how many bytes the longest answer line has
 abbrev pub longest : ℕ
-longest = field_digits + version_digits + set_digits * (1 + flow_count) + 1
+longest = LONGEST
+
+pub record Widths : Type 0 where
+  -- "two digits each"
+  pub fields : field_digits ≡ 2
+  -- "eight digits in every answer"
+  pub versions : version_digits ≡ 8
+  -- "M is sixteen digits, a role set"
+  pub sets : set_digits ≡ 16
+  -- the longest frame is 08 ss dd M, and one byte more tells a line from every frame
+  pub frames : kept ≡ suc (3 * field_digits + set_digits)
+  -- a constraint: the number returned, version, deny set, a role set for each flow, and the line feed
+  pub answers : longest ≡ suc (field_digits + version_digits + set_digits * suc flow_count)

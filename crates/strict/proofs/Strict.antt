@@ -11,7 +11,7 @@ use native.Mathlib.Omega.{arith}
 use lib.Dec.{leb, eqb}
 use lib.ListN.{length, get_or, length-append, get_or-append}
 use lib.Seq.{get_or_at}
-use borrow.Author.Tests.{ltb-false, leb-false, le-leb, eqb-false, eq-eqb, ne_eqb, not-false}
+use borrow.Author.Tests.{ltb-false, leb-false, le-leb, eqb-true, eqb-false, eq-eqb, ne_eqb, not-false}
 use Rattle.sets.specs.Sets.{has, some}
 use Rattle.sets.proofs.Laws.{and_both, and_true, or_neither, or_left, or_right, and_all, some_of, some_at, count_two}
 use Rattle.tables.specs.Tables.{user_count, role_count, database_count}
@@ -27,7 +27,7 @@ use Rattle.model.specs.Limits.{session_count, flow_count}
 use Rattle.model.specs.Calls.{returned, verdict}
 use Rattle.model.specs.Ledger.{Ledger, Flow, start, flow_of, reads, reads_two_of, is_conflicting, holds_denied, under_mandate, same}
 use Rattle.model.specs.Refusals.{last_deny, new_flow, check_rows, read_rows, rows, refusal, accepts, plus, minus, entered, renewed, with_flows, asked, taken, ledger_step, ledger_after}
-use Rattle.model.specs.Demands.{call_at, engine_at, ledger_at, takes_from}
+use Rattle.model.specs.Demands.{call_at, engine_at, ledger_at, takes_from, run_of, TwoReads, HoldsDenied, NothingTaken, OutsideMandates}
 use Rattle.model.proofs.Laws.{same_self}
 use Rattle.model.proofs.Chains.{not_met}
 use Rattle.model.proofs.Ledgers.{Stays, Since, Ordered, outside, entered_rest, one_session, step_by, since_step, along, ledger_step_is, ordered_at}
@@ -300,22 +300,33 @@ denies : (l : Ledger) (u r : ℕ) (flow : Flow) → r < role_count → l.holds u
 unfolding holds_denied
 denies l u r flow k x y = some_at role_count _ r k (and_true x y)
 
+-- at the read of the later flow the user holds a role that it denies
+holds_later : (cs : List Call) (p : Product) (s : ℕ) → Strict cs p s → (two : TwoReads (run_of cs)) → two.product ≡ p → two.session ≡ s → NothingTaken two → OutsideMandates two → HoldsDenied two
+holds_later cs p s h two same_product same_session nothing off =
+    let q = two.product in
+    let t = two.session in
+    let i = two.i in
+    let j = two.j in
+    let u = two.user in
+    let f = two.f in
+    let g = two.g in
+    let one = read_at cs q i u t f two.d (ap (verdict (engine_at cs i)) (sym two.asked) ∙ two.granted) off.first in
+    let other = read_at cs q j u t g two.e (ap (verdict (engine_at cs j)) (sym two.asked_later) ∙ two.granted_later) off.second in
+    let r = one.0 in
+    let a = one.1 in
+    let b = other.1 in
+    -- the first flow is still readable at the second read, by the same role
+    let still = still_at cs q i j u t f two.d r two.earlier two.within two.asked (λ k c x y z v. nothing k c x y z (unfold accepts in ap (refusal (ledger_at cs k)) z ∙ eqb-true _ 0 v)) a in
+    let here = reads_by (ledger_at cs j) u r two.d (flow_of (ledger_at cs j) q t f) a.role a.inside (ap (λ (flow : Flow). flow.reach two.d) still.same ∙ a.reached) still.uses in
+    let there = reads_by (ledger_at cs j) u other.0 two.e (flow_of (ledger_at cs j) q t g) b.role b.inside b.reached b.uses in
+    -- so the one that was added later denies all roles that the user then holds, and that by which it was read is among them
+    let c = covered_at cs q t j (rw (same_product, same_session) h) (omega (arith, two.within)) in
+    record {
+      later = λ k. denies (ledger_at cs j) u other.0 (flow_of (ledger_at cs j) q t g) b.role b.uses.held (c.roles f g u other.0 k b.there b.user (inr b.current) here there b.role b.uses.held);
+      earlier = λ k.
+          denies (ledger_at cs i) u r (flow_of (ledger_at cs i) q t f) a.role a.uses.held
+          (ap (λ (flow : Flow). flow.deny r) (sym still.same) ∙ c.roles g f u r k still.there b.user (inl b.current) there here a.role still.uses.held);
+    }
+
 pub strict_first : (cs : List Call) (p : Product) (s : ℕ) → Strict cs p s → StrictFirst cs p s
-strict_first cs p s h = record {
-  first = λ i j u f g d e l m x y n v w o q z.
-      let one = read_at cs p i u s f d v o in
-      let two = read_at cs p j u s g e w q in
-      let r = one.0 in
-      let a = one.1 in
-      let b = two.1 in
-      -- the first flow is still readable at the second read, by the same role
-      let still = still_at cs p i j u s f d r l m x z a in
-      let here = reads_by (ledger_at cs j) u r d (flow_of (ledger_at cs j) p s f) a.role a.inside (ap (λ (flow : Flow). flow.reach d) still.same ∙ a.reached) still.uses in
-      let there = reads_by (ledger_at cs j) u two.0 e (flow_of (ledger_at cs j) p s g) b.role b.inside b.reached b.uses in
-      -- so the one that was added later denies all roles that the user then holds, and that by which it was read is among them
-      let c = covered_at cs p s j h (omega arith) in
-      (demand3 cs).first p i j u s f g d e l m x y n v w o q
-      (λ k. denies (ledger_at cs j) u two.0 (flow_of (ledger_at cs j) p s g) b.role b.uses.held (c.roles f g u two.0 k b.there b.user (inr b.current) here there b.role b.uses.held))
-      (λ k. denies (ledger_at cs i) u r (flow_of (ledger_at cs i) p s f) a.role a.uses.held
-      (ap (λ (flow : Flow). flow.deny r) (sym still.same) ∙ c.roles g f u r k still.there b.user (inl b.current) there here a.role still.uses.held)) z;
-}
+strict_first cs p s h two w = (demand3 cs).first two (holds_later cs p s h two w.0 w.1 w.2 w.3, w.2, w.3)

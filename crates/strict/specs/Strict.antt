@@ -1,11 +1,10 @@
 -- Additions that choose every conflicting role. Of a session with no other additions the first half of demand 3 holds without its first premise.
 -- Statements alone; proofs/Strict has the theorem, and proofs/Run that there is such a list.
 -- Assumes nothing.
-use Rattle.std.specs.Prelude.{ℕ, ◌<◌, ◌≡◌, true, false, List, [], ◌∷◌, ◌≢◌, length}
+use Rattle.std.specs.Prelude.{ℕ, ◌<◌, ◌≡◌, true, false, List, [], ◌∷◌, length}
 use Rattle.sets.specs.Sets.{has}
 use Rattle.tables.specs.Tables.{role_count}
 use Rattle.model.specs.declared.calls.Refusal.TheVariants.{Linkable}
-use Rattle.model.specs.declared.calls.Change.{Change}
 use Rattle.model.specs.declared.calls.Change.TheVariants.{Assign, Withdraw, Permit}
 use Rattle.model.specs.declared.calls.Product.{Product}
 use Rattle.model.specs.declared.calls.Product.TheVariants.{Server}
@@ -18,7 +17,7 @@ use Rattle.model.specs.declared.calls.Answer.TheVariants.{Roles}
 use Rattle.model.specs.Calls.{answer, verdict}
 use Rattle.model.specs.Ledger.{is_conflicting, under_mandate}
 use Rattle.model.specs.Refusals.{new_flow, accepts}
-use Rattle.model.specs.Demands.{call_at, engine_at, ledger_at, takes_from}
+use Rattle.model.specs.Demands.{call_at, engine_at, ledger_at, run_of, FirstHalf, NothingTaken, OutsideMandates}
 
 -- Each accepted addition to product p's session s, where it has flows already, chooses every role that conflicts with the new flow counted in: all that
 -- 07 answers for its root. Others can't be chosen (row 8). Of a first flow nothing is asked: with one flow no role conflicts. Nor is it of other sessions.
@@ -33,16 +32,9 @@ AsAnswered cs p s = (i root chosen : ℕ) → call_at cs i ≡ Session p s (Add 
     → 0 < length ((ledger_at cs i).flows p s)
     → answer (engine_at cs i) (Session p s (Conflicting root)) ≡ Roles chosen
 
--- of such a session: `first` of `Demand3`, and nothing is asked of the roles that the user holds
-pub record StrictFirst (cs : List Call) (p : Product) (s : ℕ) : Type 0 where
-  pub first : (i j u f g d e : ℕ) → i < j → j < length cs
-      → call_at cs i ≡ Read p u s f d → call_at cs j ≡ Read p u s g e → f ≢ g
-      → verdict (engine_at cs i) (Read p u s f d) ≡ Granted → verdict (engine_at cs j) (Read p u s g e) ≡ Granted
-      -- "neither read was made under a mandate" (K3)
-      → under_mandate (ledger_at cs i) u d ≡ false → under_mandate (ledger_at cs j) u e ≡ false
-      -- "between the two reads no role was withdrawn from the user and no permission from a role the user then held"
-      → ((k : ℕ) (c : Change) → i < k → k < j → call_at cs k ≡ Table c → accepts (ledger_at cs k) (Table c) ≡ true → takes_from (ledger_at cs k) u c ≡ false)
-      → ⊥
+-- of such a session the first half of demand 3, and nothing is asked of the roles that the user holds
+abbrev pub StrictFirst : List Call → Product → ℕ → Type 0
+StrictFirst cs p s = FirstHalf (run_of cs) (λ two. (two.product ≡ p) × (two.session ≡ s) × NothingTaken two × OutsideMandates two)
 
 -- ---- such a list: user 1 may read two flows, and both are granted once a role was withdrawn in between
 
