@@ -6,11 +6,12 @@ use mathlib.Core.Bool.{false}
 use mathlib.Core.List.{List}
 use lib.Dec.{leb}
 use lib.ListN.{get_or}
-use borrow.Author.Tests.{lt-leb}
+use borrow.Author.Tests.{lt-leb, le-leb}
 use Rattle.rows.specs.Reach.{reach}
 use Rattle.tables.specs.Tables.{user_count, role_count, database_count, readers_of}
 use Rattle.model.specs.Limits.{flow_count}
 use Rattle.model.specs.State.{all_sessions, tables_of, reach_with, parents_among, role_set}
+use Rattle.model.proofs.Laws.{get_d_same}
 use Rattle.graph.specs.Graph.{roles_by_flow, overlapping_by_flow, Joined}
 use Rattle.graph.proofs.Made.{flow_at}
 
@@ -29,4 +30,8 @@ module _ (readers forwards reaches may : List ℕ) (s n root new : ℕ) (here : 
       ∙ ap (λ (x : ℕ). parents_among role_count user_count held x deny) (roles_at g l)
 
 pub joined : Joined
-joined held readers forwards mandates reaches s n root deny g here l = sets_at readers forwards reaches _ s n root _ (lt-leb all_sessions s here) refl refl held mandates deny g l
+unfolding roles_by_flow
+joined = record {
+  sets = λ held readers forwards mandates reaches s n root deny g here l. sets_at readers forwards reaches _ s n root _ (lt-leb all_sessions s here) refl refl held mandates deny g l;
+  above = λ readers reaches s n new g h. rw (le-leb all_sessions s h) (get_d_same flow_count g 0);
+}
