@@ -4,7 +4,7 @@
     journal.py PROGRAM      from the root of the repository
 
 Each line of a run is the last one of a file and is cut at each of its bytes; the file is opened, which mends it, and
-the run goes on. A fresh engine that is sent the file has to answer as one that is sent the lines that were whole. Then
+the next frames are appended. A fresh engine that is sent the file has to answer as one that is sent the lines that were whole. Then
 a file that nothing mends, and the frame that arises there. Last, the refused frames are dropped by the command of
 docs/MAKERS.md, and the engine has to be the same. Prints a line for each, and exits 1 where something is otherwise.
 """
@@ -73,10 +73,10 @@ def cut_everywhere(path):
         for left in range(len(line) + 1):
             put(path, lines(RUN[:n]) + line[:left])
             journal = Journal(path)
-            for later in RUN[n + 1:]:
+            for later in RUN[n + 1:n + 4]:
                 journal.append(later)
             journal.close()
-            whole = lines(RUN[:n] + [frame] * (left == len(line)) + RUN[n + 1:])
+            whole = lines(RUN[:n] + [frame] * (left == len(line)) + RUN[n + 1:n + 4])
             if told(content(path)) != told(whole):
                 wrong.append("%d bytes left of %s: another run" % (left, frame))
             crashes += 1
