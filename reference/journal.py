@@ -4,11 +4,14 @@
     journal.py PROGRAM      from the root of the repository
 
 Each line of a run is the last one of a file and is cut at each of its bytes; the file is opened, which mends it, and
-the next frames are appended. A fresh engine that is sent the file has to answer as one that is sent the lines that were whole. Then
-a file that nothing mends, and the frame that arises there. Last, the refused frames are dropped by the command of
-docs/MAKERS.md, and the engine has to be the same. Prints a line for each, and exits 1 where something is otherwise.
+the next frames are appended. A fresh engine that is sent the file has to answer as one that is sent the lines that
+were whole. Then a disk that gets full; a file that nothing mends, and the frame that arises there; and the refused
+frames are dropped by the command of docs/MAKERS.md, after which the engine has to be the same. Prints a line for each,
+and exits 1 where something is otherwise.
 """
 import os
+import resource
+import signal
 import subprocess
 import sys
 import tempfile
@@ -51,16 +54,25 @@ class Journal:
 
     def __init__(self, path):
         """Cuts the file behind its last line feed: what stands there was never sent."""
+        is_new = not os.path.exists(path)
         self.file = os.open(path, os.O_RDWR | os.O_CREAT | os.O_APPEND, 0o600)
         os.ftruncate(self.file, content(path).rfind(b"\n") + 1)
         os.fsync(self.file)
+        if is_new:
+            folder = os.open(os.path.dirname(path), os.O_RDONLY)
+            os.fsync(folder)
+            os.close(folder)
 
     def append(self, frame):
-        """The whole line in one write, synced. Only then may the frame be sent."""
-        line = lines([frame])
-        if os.write(self.file, line) != len(line):
-            raise OSError("the line was not written whole: open the file anew before anything is appended")
-        os.fsync(self.file)
+        """The whole line in one write, synced. Only then may the frame be sent; where this fails the file is as it was."""
+        line, length = lines([frame]), os.fstat(self.file).st_size
+        try:
+            if os.write(self.file, line) != len(line):
+                raise OSError("a part of the line was written")
+            os.fsync(self.file)
+        except OSError:
+            os.ftruncate(self.file, length)
+            raise
 
     def close(self):
         os.close(self.file)
@@ -81,6 +93,28 @@ def cut_everywhere(path):
                 wrong.append("%d bytes left of %s: another run" % (left, frame))
             crashes += 1
     print("%d crashes, %d of them give another run" % (crashes, len(wrong)))
+    return wrong
+
+
+def full_disk(path):
+    """The file takes a part of the next line and no more."""
+    os.remove(path)
+    journal, wrong = Journal(path), []
+    journal.append(RUN[0])
+    signal.signal(signal.SIGXFSZ, signal.SIG_IGN)
+    limits = resource.getrlimit(resource.RLIMIT_FSIZE)
+    for part in range(len(RUN[1]) + 1):
+        resource.setrlimit(resource.RLIMIT_FSIZE, (len(lines(RUN[:1])) + part, limits[1]))
+        try:
+            journal.append(RUN[1])
+            wrong.append("%d bytes fit, and no failure" % part)
+        except OSError:
+            pass
+        resource.setrlimit(resource.RLIMIT_FSIZE, limits)
+        if content(path) != lines(RUN[:1]):
+            wrong.append("%d bytes fit, and the file is another" % part)
+    journal.close()
+    print("a disk full after 0 to %d bytes of a line: %d failures are not as they should" % (part, len(wrong)))
     return wrong
 
 
@@ -117,7 +151,7 @@ def drop_refused(folder):
 def main():
     with tempfile.TemporaryDirectory() as folder:
         path = os.path.join(folder, "journal")
-        wrong = cut_everywhere(path) + role_that_nobody_gave(path) + drop_refused(folder)
+        wrong = cut_everywhere(path) + full_disk(path) + role_that_nobody_gave(path) + drop_refused(folder)
     for line in wrong:
         print("  " + line)
     return 1 if wrong else 0
