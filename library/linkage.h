@@ -35,8 +35,9 @@
  *     engine, to bytes and to `consumed` are not NULL, for no bytes neither.
  *   - What one call is given does not overlap: no answer goes into the engine,
  *     and `out` is not in `input`.
- *   - One thread at a time is in an engine.  (While nothing changes it, several
- *     may be in the functions that take it const.)
+ *   - Calls that take an engine as const may run side by side, in several
+ *     threads, while nothing changes it.  A call that may change it has to be
+ *     alone in it.
  *   - The promises about whole lists of calls, the third demand of
  *     docs/PROMISES.md among them, are about a struct that linkage_fresh has
  *     made and that nothing but these functions has changed since.

@@ -10,6 +10,9 @@
 //! it. An [`Engine`] is made fresh and changed by its methods alone, so that the promises about whole
 //! lists of calls hold of it.
 //!
+//! Calls that take an engine as `&self` may run side by side, in several threads, while nothing changes
+//! it. A call that may change it takes `&mut self` and is alone in it.
+//!
 //! Numbers of users, roles, databases, sessions and flows are plain; one that is too high is refused with
 //! [`Refusal::AboveLimit`]. In a set of roles, role r is the bit of that number.
 //!
