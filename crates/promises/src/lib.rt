@@ -48,50 +48,43 @@ ghost use Rattle.streams.specs.Feeds.{FeedsMean};
 /// For every input, the specification allows what the program writes, and no other output.
 pub fn every_byte()
     ensures { (input : List ℕ) → Exact input }
-{
-}
+{}
 
 /// Each line of an input is a call; of these calls demands 1 and 3 hold; and each call's answer stands
 /// in its place of the output.
 pub fn every_line()
     ensures { (input : List ℕ) → ByteDemands input }
-{
-}
+{}
 
 /// Input may come in any pieces, with any room for answers. Once no whole line is left of the last
 /// piece, what they write and what the end of input adds is what is written for the input in one.
 pub fn any_pieces()
     ensures { (pieces : List Piece) → InPieces pieces }
-{
-}
+{}
 
 /// A piece is taken from its front. Where the longest answer has room, a piece with a whole line in it
 /// gets shorter.
 pub fn every_piece_moves_on()
     ensures { (room : ℕ) (e : Engine) (bytes : List ℕ) → Progress room e bytes }
-{
-}
+{}
 
 /// From any place of an input of bytes, the next line goes up to the next line feed and is the call
 /// that it reads as. Where no line feed follows there is none.
 pub fn next_line()
     ensures { (input : List ℕ) (place : ℕ) → ((i : ℕ) → get_or input i 0 < 256)
         → LineAt input place (next_by high_table low_table input place) }
-{
-}
+{}
 
 /// What ends a line is the byte 0a and no other.
 pub fn line_feeds()
     ensures { FeedsMean }
-{
-}
+{}
 
 /// The worked run, the same in the term bank, and a run with a mandate, all in literal bytes: the
 /// program writes these answers, and the specification allows them.
 pub fn worked_runs()
     ensures { Settled }
-{
-}
+{}
 
 // ---- demand 1: every call
 
@@ -100,120 +93,101 @@ pub fn worked_runs()
 /// the answer that the specification gives it.
 pub fn every_call()
     ensures { (e : Engine) (c : Call) → Demand1 e c }
-{
-}
+{}
 
 /// A call by value gives back its answer and the engine after it.
 pub fn given_back()
     ensures { (e : Engine) (c : Call) → ChangedMeans e c }
-{
-}
+{}
 
 /// A constraint is shown as it is kept. Where showing is refused, the number is all that is told.
 pub fn shown_constraint()
     ensures { (e : Engine) (p : Product) (s f : ℕ) → ShowMeans e p s f }
-{
-}
+{}
 
 // ---- demand 2: sets and tables, of any size
 
 /// A set of the numbers below n that pass a test has those and no other, whatever n is.
 pub fn set_members()
     ensures { (n : ℕ) (p : ℕ → Bool) (i : ℕ) → (has (set_of n p) i ≡ true) ↔ ((i < n) × (p i ≡ true)) }
-{
-}
+{}
 
 /// Two sets with the same members are the same, whatever their size.
 pub fn same_members()
     ensures { (n x y : ℕ) → x < 2 ^ n → y < 2 ^ n → ((i : ℕ) → i < n → has x i ≡ has y i) → x ≡ y }
-{
-}
+{}
 
 /// The databases of level k are those to which at most k steps of forwarding lead.
 pub fn reach_by_steps()
     ensures { LevelMeans }
-{
-}
+{}
 
 /// The reach of a root is the root and every database to which forwarding leads from it, in one or
 /// more steps.
 pub fn reach()
     ensures { ReachMeans }
-{
-}
+{}
 
 /// A reach has at least one database, and no more than there are.
 pub fn reach_size()
     ensures { ReachSize }
-{
-}
+{}
 
 /// A pair that is entered is there, and every other pair is as before.
 pub fn pair_entered()
     ensures { EnteredMeans }
-{
-}
+{}
 
 /// A pair that is struck out isn't there, and every other pair is as before.
 pub fn pair_struck_out()
     ensures { StruckMeans }
-{
-}
+{}
 
 /// The readers of a reach are the roles that may read a database in it.
 pub fn readers()
     ensures { ReadersMean }
-{
-}
+{}
 
 /// A user may statically read a flow exactly where one of the user's roles may read a database in its
 /// reach.
 pub fn static_reading()
     ensures { ReadsMean }
-{
-}
+{}
 
 /// A role is held exactly where some user holds it.
 pub fn holders()
     ensures { HeldMeans }
-{
-}
+{}
 
 /// Two roles overlap exactly where some user holds both.
 pub fn overlapping()
     ensures { OverlapsMean }
-{
-}
+{}
 
 /// A role overlaps itself exactly where anybody holds it.
 pub fn overlapping_itself()
     ensures { OverlapsItself }
-{
-}
+{}
 
 /// The parents of a set of roles are the roles that some role of the set overlaps.
 pub fn parents()
     ensures { ParentsMean }
-{
-}
+{}
 
 /// A role that nobody holds has no parent.
 pub fn parents_of_unheld()
     ensures { UnheldHasNone }
-{
-}
+{}
 
 /// Each change of the tables changes its own pair in its own table, and nothing else.
 pub fn table_changes()
     ensures { (t : Tables) → ChangesMean t }
-{
-}
+{}
 
 /// Fresh tables are empty.
 pub fn fresh_tables()
     ensures { FreshEmpty }
-{
-}
+{}
 
 // ---- demand 2: flows, versions and reads
 
@@ -221,49 +195,42 @@ pub fn fresh_tables()
 /// linkable are as the unlinkability model says, for any number of roles, users, databases and flows.
 pub fn session_sets()
     ensures { (roles users databases flows : ℕ) (t : Tables) → SetsMean roles users databases flows t }
-{
-}
+{}
 
 /// Asked for the conflicting roles, an engine tells those that conflict with a flow of that root
 /// counted in.
 pub fn conflicts_asked()
     ensures { (e : Engine) (p : Product) (s root : ℕ) → QueryMeans e p s root }
-{
-}
+{}
 
 /// What each accepted call leaves behind it, in every list of calls: the pair, who gets a new version,
 /// the opening, the flow and its constraint.
 pub fn accepted_calls()
     ensures { (cs : List Call) (i : ℕ) (c : Call) → verdict (engine_at cs i) c ≡ Granted
         → Means (engine_at cs i) (after (engine_at cs i) c) c }
-{
-}
+{}
 
 /// The same of any engine by value, for changes and openings. Questions and reads change nothing.
 pub fn accepted_by_value()
     ensures { (e : Engine) → ValueMeans e }
-{
-}
+{}
 
 /// An addition stores what the model says, and of every flow that is there its root, its reach and its
 /// constraint stay, whatever calls follow.
 pub fn flows_last()
     ensures { (cs : List Call) → Lasting cs }
-{
-}
+{}
 
 /// Whatever an engine holds, exactly which reads are refused as changed, which as linkable, and which
 /// are granted, and that a mandate passes both.
 pub fn every_read()
     ensures { (e : Engine) (p : Product) (u s f d : ℕ) → ReadMeans e p u s f d }
-{
-}
+{}
 
 /// A fresh engine has 256 user versions of zero, system version 0, empty tables and no open session.
 pub fn fresh_engine()
     ensures { FreshMeans fresh }
-{
-}
+{}
 
 // ---- demand 3: every list of calls
 
@@ -272,79 +239,68 @@ pub fn fresh_engine()
 /// premises that the record names.
 pub fn every_list()
     ensures { (cs : List Call) → Demand3 cs }
-{
-}
+{}
 
 /// In a session whose additions choose every conflicting role, no user is granted reads of two flows,
 /// whatever roles the user holds, where neither read was under a mandate and nothing was taken back in
 /// between.
 pub fn strict_choices()
     ensures { (cs : List Call) (p : Product) (s : ℕ) → Strict cs p s → StrictFirst cs p s }
-{
-}
+{}
 
 /// To choose every conflicting role is to choose what the engine answers when asked for them just
 /// before.
 pub fn strict_as_answered()
     ensures { (cs : List Call) (p : Product) (s : ℕ) → Strict cs p s ↔ AsAnswered cs p s }
-{
-}
+{}
 
 /// There is such a session with two flows. In it the second flow is granted once a role is withdrawn,
 /// so the premise about what is taken back is needed.
 pub fn strict_run()
     ensures { StrictRun }
-{
-}
+{}
 
 // ---- two products on one directory
 
 /// Every session of either product has a number of its own.
 pub fn sessions_apart()
     ensures { NumbersMean }
-{
-}
+{}
 
 /// By the numbers that calls return, one product's answers don't depend on the other's calls where
 /// forwarding comes before flows, both products are served alike, and forwarding closes with the first
 /// flow of either.
 pub fn products_by_number()
     ensures { Products }
-{
-}
+{}
 
 /// The same of whole answer lines.
 pub fn products_by_answer()
     ensures { ProductAnswers }
-{
-}
+{}
 
 /// The same of the program's input and output.
 pub fn products_in_bytes()
     ensures { ProductBytes }
-{
-}
+{}
 
 // ---- the paper's steps
 
 /// Each of the three steps gives what the model defines, member by member.
 pub fn each_step()
     ensures { (t : Tables) → StepsMean t }
-{
-}
+{}
 
 /// In every list of calls, what an addition stores for a flow is the third step's result from the
 /// second's from the first's.
 pub fn steps_of_additions()
     ensures { (cs : List Call) → Steps cs }
-{
-}
+{}
 
 /// The three functions of the code, one after the other, come to the role set.
 pub fn steps_joined()
     ensures { Joined }
-{
-}
+{}
 
 // ---- reading by duty
 
@@ -352,15 +308,13 @@ pub fn steps_joined()
 /// a read under one is granted where no row before 13 is met.
 pub fn mandates()
     ensures { (cs : List Call) → Mandates cs }
-{
-}
+{}
 
 /// In a list in which no mandate is accepted, no read is under one, and both halves of demand 3 hold
 /// with no word of mandates.
 pub fn without_mandates()
     ensures { (cs : List Call) → NoMandate cs → Before cs }
-{
-}
+{}
 
 // ---- versions of 32 bits
 
@@ -368,34 +322,29 @@ pub fn without_mandates()
 /// version is refused with 9.
 pub fn versions()
     ensures { (cs : List Call) → Versions cs }
-{
-}
+{}
 
 /// A version is told by eight digits, and no two versions by the same.
 pub fn versions_told()
     ensures { VersionsTold }
-{
-}
+{}
 
 /// An engine of the old width is carried over with each version's number and all else unchanged, and
 /// answers every read as before.
 pub fn carried_over()
     ensures { (old : OldEngine) → Carried old }
-{
-}
+{}
 
 /// Demand 3 holds of every run that moves: calls to the old engine, carrying over, calls to the new.
 pub fn moved_runs()
     ensures { (cs ds : List Call) → Moved cs ds }
-{
-}
+{}
 
 /// Whatever calls led the old engine to, as many calls lead the engine to: the same ones, but where
 /// the old engine had no version left.
 pub fn moved_as_led()
     ensures { (cs : List Call) → Led cs }
-{
-}
+{}
 
 // ---- recorded runs
 
@@ -403,40 +352,34 @@ pub fn moved_as_led()
 /// does, or 16 where the file is too long or a frame lacks its answer; and nothing else.
 pub fn replayed_files()
     ensures { (file : List ℕ) → Replays file }
-{
-}
+{}
 
 /// A recorded run agrees, whatever output was recorded that the specification allows.
 pub fn recorded_runs()
     ensures { (input : List ℕ) → RecordedRun input }
-{
-}
+{}
 
 /// From position to position a reader of a file hands out every line once, in order, and at the end
 /// nothing.
 pub fn lines_read()
     ensures { (text : List ℕ) → LinesRead text }
-{
-}
+{}
 
 // ---- the library for C and Rust, and the picture
 
 /// For a caller in C product 0 is the server and 1 the term bank, and any other number gets 2.
 pub fn products_in_c()
     ensures { (e : Engine) → ProductsMean e }
-{
-}
+{}
 
 /// A caller's values stay as they were where a call is refused, and are those of demand 1 where it is
 /// accepted.
 pub fn values_in_c()
     ensures { (e : Engine) → ValuesMean e }
-{
-}
+{}
 
 /// A role conflicts today exactly where some user holds it and has, for two different flows of the
 /// session, a role that may read a database in the flow's reach.
 pub fn conflicts_today()
     ensures { (t : Tables) (sessions : Sessions) (s : ℕ) → TodayMeans t sessions s }
-{
-}
+{}
