@@ -50,8 +50,8 @@ pub fn every_byte()
     ensures { (input : List ℕ) → Exact input }
 {}
 
-/// Each line of an input is a call; of these calls demands 1 and 3 hold; and each call's answer stands
-/// in its place of the output.
+/// Each line of an input is a call. What is promised of every call and of every list of calls holds of
+/// these, and each call's answer stands in its place of the output.
 pub fn every_line()
     ensures { (input : List ℕ) → ByteDemands input }
 {}
@@ -75,7 +75,7 @@ pub fn next_line()
         → LineAt input place (next_by high_table low_table input place) }
 {}
 
-/// What ends a line is the byte 0a and no other.
+/// Line feeds are counted by the byte 0a, and no other byte counts.
 pub fn line_feeds()
     ensures { FeedsMean }
 {}
@@ -86,7 +86,7 @@ pub fn worked_runs()
     ensures { Settled }
 {}
 
-// ---- demand 1: every call
+// ---- every call
 
 /// Whatever an engine holds, a call that meets a row of the refusal table is refused with the number
 /// of the first such row, and the engine stays as it is. Every other call is accepted, and ends with
@@ -105,7 +105,7 @@ pub fn shown_constraint()
     ensures { (e : Engine) (p : Product) (s f : ℕ) → ShowMeans e p s f }
 {}
 
-// ---- demand 2: sets and tables, of any size
+// ---- sets and tables, of any size
 
 /// A set of the numbers below n that pass a test has those and no other, whatever n is.
 pub fn set_members()
@@ -189,7 +189,7 @@ pub fn fresh_tables()
     ensures { FreshEmpty }
 {}
 
-// ---- demand 2: flows, versions and reads
+// ---- flows, versions and reads
 
 /// Which roles conflict, which choice is refused, which roles a role set has and which read is
 /// linkable are as the unlinkability model says, for any number of roles, users, databases and flows.
@@ -232,11 +232,13 @@ pub fn fresh_engine()
     ensures { FreshMeans fresh }
 {}
 
-// ---- demand 3: every list of calls
+// ---- every list of calls
 
 /// In every list of calls the engine holds what the ledger holds and refuses what the ledger refuses,
-/// the rule for linkable is exact, and no user is granted reads of two flows of one session under the
-/// premises that the record names.
+/// and the rule for linkable is exact. No user is granted reads of two flows of one session of one
+/// product where neither read is under a mandate, the user holds a denied role of the flow added later
+/// when it is read, and in between no role was withdrawn from the user nor a permission from a role
+/// that the user then held.
 pub fn every_list()
     ensures { (cs : List Call) → Demand3 cs }
 {}
@@ -262,7 +264,7 @@ pub fn strict_run()
 
 // ---- two products on one directory
 
-/// Every session of either product has a number of its own.
+/// Every session of either product has a number of its own among the engine's.
 pub fn sessions_apart()
     ensures { NumbersMean }
 {}
@@ -297,7 +299,7 @@ pub fn steps_of_additions()
     ensures { (cs : List Call) → Steps cs }
 {}
 
-/// The three functions of the code, one after the other, come to the role set.
+/// For any tables, the three steps one after the other, as the code takes them, come to the role set.
 pub fn steps_joined()
     ensures { Joined }
 {}
@@ -310,8 +312,8 @@ pub fn mandates()
     ensures { (cs : List Call) → Mandates cs }
 {}
 
-/// In a list in which no mandate is accepted, no read is under one, and both halves of demand 3 hold
-/// with no word of mandates.
+/// In a list in which no mandate is accepted no read is under one, and the rule for linkable and the
+/// promise about two flows hold with no word of mandates.
 pub fn without_mandates()
     ensures { (cs : List Call) → NoMandate cs → Before cs }
 {}
@@ -335,7 +337,8 @@ pub fn carried_over()
     ensures { (old : OldEngine) → Carried old }
 {}
 
-/// Demand 3 holds of every run that moves: calls to the old engine, carrying over, calls to the new.
+/// What is promised of every list of calls holds of every run that moves: calls to a fresh engine of
+/// the old width, carrying over, calls to the engine. The two reads may stand on either side.
 pub fn moved_runs()
     ensures { (cs ds : List Call) → Moved cs ds }
 {}
@@ -349,12 +352,14 @@ pub fn moved_as_led()
 // ---- recorded runs
 
 /// What is printed of a file: the number of the first pair whose answers differ, zeros where none
-/// does, or 16 where the file is too long or a frame lacks its answer; and nothing else.
+/// does, or 16 where the file is too long or, with no pair that differs, its last line is a frame. It
+/// is one of these, whatever the file.
 pub fn replayed_files()
     ensures { (file : List ℕ) → Replays file }
 {}
 
-/// A recorded run agrees, whatever output was recorded that the specification allows.
+/// Every input of whole lines can be recorded. In a file of at most 1,048,576 bytes that pairs its
+/// lines with an output that the specification allows, no pair differs.
 pub fn recorded_runs()
     ensures { (input : List ℕ) → RecordedRun input }
 {}
@@ -372,8 +377,8 @@ pub fn products_in_c()
     ensures { (e : Engine) → ProductsMean e }
 {}
 
-/// A caller's values stay as they were where a call is refused, and are those of demand 1 where it is
-/// accepted.
+/// A caller's values stay as they were where a call is refused, and are those of its answer where it
+/// is accepted.
 pub fn values_in_c()
     ensures { (e : Engine) → ValuesMean e }
 {}
