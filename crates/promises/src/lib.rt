@@ -69,7 +69,7 @@ pub fn every_piece_moves_on()
 {}
 
 /// From any place of an input of bytes, the next line goes up to the next line feed and is the call
-/// that it reads as. Where no line feed follows there is none.
+/// that it reads as, by the tables of the digits. Where no line feed follows there is none.
 pub fn next_line()
     ensures { (input : List ℕ) (place : ℕ) → ((i : ℕ) → get_or input i 0 < 256)
         → LineAt input place (next_by high_table low_table input place) }
@@ -117,7 +117,7 @@ pub fn same_members()
     ensures { (n x y : ℕ) → x < 2 ^ n → y < 2 ^ n → ((i : ℕ) → i < n → has x i ≡ has y i) → x ≡ y }
 {}
 
-/// The databases of level k are those to which at most k steps of forwarding lead.
+/// The databases of level k are those to which at most k steps of forwarding lead from the root.
 pub fn reach_by_steps()
     ensures { LevelMeans }
 {}
@@ -128,17 +128,17 @@ pub fn reach()
     ensures { ReachMeans }
 {}
 
-/// A reach has at least one database, and no more than there are.
+/// The reach of a database that there is has at least one database, and no more than there are.
 pub fn reach_size()
     ensures { ReachSize }
 {}
 
-/// A pair that is entered is there, and every other pair is as before.
+/// A pair that is entered in a row of a table is there, and every other pair is as before.
 pub fn pair_entered()
     ensures { EnteredMeans }
 {}
 
-/// A pair that is struck out isn't there, and every other pair is as before.
+/// A pair that is struck out of a row of a table isn't there, and every other pair is as before.
 pub fn pair_struck_out()
     ensures { StruckMeans }
 {}
@@ -210,7 +210,8 @@ pub fn accepted_calls()
         → Means (engine_at cs i) (after (engine_at cs i) c) c }
 {}
 
-/// The same of any engine by value, for changes and openings. Questions and reads change nothing.
+/// The same of changes and openings for any engine by value that has 256 user versions and, where a
+/// session is opened, no flow in it. Of every engine, questions and reads change nothing.
 pub fn accepted_by_value()
     ensures { (e : Engine) → ValueMeans e }
 {}
@@ -244,8 +245,8 @@ pub fn every_list()
 {}
 
 /// In a session whose additions choose every conflicting role, no user is granted reads of two flows,
-/// whatever roles the user holds, where neither read was under a mandate and nothing was taken back in
-/// between.
+/// whatever roles the user holds, where neither read is under a mandate and in between nothing was
+/// taken back, as above.
 pub fn strict_choices()
     ensures { (cs : List Call) (p : Product) (s : ℕ) → Strict cs p s → StrictFirst cs p s }
 {}
@@ -264,7 +265,8 @@ pub fn strict_run()
 
 // ---- two products on one directory
 
-/// Every session of either product has a number of its own among the engine's.
+/// Every session of either product has a number of its own among the engine's, and one above the limit
+/// has none.
 pub fn sessions_apart()
     ensures { NumbersMean }
 {}
