@@ -1,2 +1,2 @@
-mod Products
-mod Values
+pub mod Products
+pub mod Values

@@ -1,6 +1,6 @@
 mod Finding
 mod Lines
-mod Going
+pub mod Going
 mod PrintedLines
 mod Pairs
 mod Ending

@@ -1,0 +1,5 @@
+use Rattle.streams.proofs.Laws.{feeds_mean}
+use Rattle.promises.proofs.line_feeds.Goals as goal
+
+pub returns : goal.returns
+returns c = feeds_mean
