@@ -61,7 +61,7 @@ impl TryFrom<usize> for Kind {
             9 | 14 => Ok(Kind::Read(product)),
             10 | 15 => Ok(Kind::Show(product)),
             16 => Ok(Kind::Mandate),
-            _ => Err(NoSuchKind(number)),
+            0 | 17.. => Err(NoSuchKind(number)),
         }
     }
 }

@@ -9,7 +9,7 @@ ghost use Rattle.model.specs.State.{place_count};
 ghost use Rattle.model.specs.State.{tables_of, directory_of, sessions_of, linkable};
 ghost use Rattle.model.specs.Calls.{returned, read};
 
-use model::{Engine, Refusal, Verdict, Version};
+use model::{Engine, Refusal, Version};
 use tables::lent;
 
 // Whether these roles meet the deny set and two of the role sets of the flow at this place. All of
@@ -86,30 +86,4 @@ pub fn number(
     let changed = versions[at] < users[u];
     let linkable = links(rolesets, denies[at], held, at);
     verdict::first_of(out_of_reach, no_permission, by_duty, changed, linkable)
-}
-
-// The same read, answered as document 01 has it: granted, or refused with its row.
-#[tactic(auto, using(verdict::proofs::Laws::back))]
-pub fn read(
-    roles: &[u64; Engine::USERS],
-    readers: &[u64; Engine::DATABASES],
-    mandates: &[u64; Engine::DATABASES],
-    users: &[Version; Engine::USERS],
-    opened: u64,
-    counts: &[usize; Engine::ALL_SESSIONS],
-    reaches: &[u64; Engine::PLACES],
-    versions: &[Version; Engine::PLACES],
-    denies: &[u64; Engine::PLACES],
-    rolesets: &[u64; Engine::ROLE_SETS],
-    u: usize,
-    s: usize,
-    f: usize,
-    d: usize,
-) -> Verdict
-    ensures { (forwards : List ℕ) (version : ℕ) (roots : List ℕ) → result ≡ read (directory_of (tables_of roles.now readers.now forwards mandates.now) users.now version) (sessions_of opened counts.now roots reaches.now versions.now denies.now rolesets.now) u s f d }
-{
-    verdict::verdict_by(number(
-        roles, readers, mandates, users, opened, counts, reaches, versions, denies, rolesets, u, s,
-        f, d,
-    ))
 }

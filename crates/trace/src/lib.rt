@@ -7,5 +7,5 @@ mod reader;
 mod replaying;
 
 pub use printing::{WIDEST, printed_line};
-pub use reader::{Trace, line_at};
+pub use reader::Trace;
 pub use replaying::{LIMIT, Outcome, replay};

@@ -1,6 +1,5 @@
 // The trace reader: it carries the lent text and the position of the next unread line, and hands out each
-// line as the part of that text it is. Its steps are thin: `line_from` finds the line. Whoever has a text
-// and a position goes by `line_at`.
+// line as the part of that text it is. Its steps are thin: `line_from` finds the line.
 ghost use Rattle.std.specs.Prelude.{◌+◌, ◌≡◌, length};
 ghost use Rattle.trace.specs.Lines.{line_at};
 
@@ -39,11 +38,4 @@ impl<'a> Trace<'a> {
         self.at += line.len();
         line
     }
-}
-
-// The line that begins at a position of a text, by a reader of its own.
-pub fn line_at(text: &[u8], at: usize) -> &[u8]
-    ensures { result.now ≡ line_at text.now at }
-{
-    Trace::at(text, at).next()
 }

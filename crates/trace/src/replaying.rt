@@ -2,7 +2,7 @@
 ghost use Rattle.std.specs.Prelude.{◌≡◌};
 ghost use Rattle.trace.specs.Outcomes.{outcome};
 
-use super::reader;
+use super::reader::Trace;
 use frames::LONGEST;
 
 // How many bytes a recorded run may have.
@@ -22,7 +22,7 @@ pub enum Outcome {
 }
 
 // Goes over a recorded run, from a fresh engine.
-// Kept: a place and a number that go on together. An iterator of pairs, to be counted, would be a second
+// Kept: a reader and a number that go on together. An iterator of pairs, to be counted, would be a second
 // reader beside `Trace`, and would have to say that a frame line is the last one.
 #[tactic(auto, using(crate::proofs::Going::too_long, crate::proofs::Going::line_within, crate::proofs::Going::going_last, crate::proofs::Going::written_within, crate::proofs::Going::going_end))]
 pub fn replay(text: &[u8]) -> Outcome
@@ -33,20 +33,18 @@ pub fn replay(text: &[u8]) -> Outcome
     }
     let mut engine = frames::fresh();
     let mut answer = [0u8; LONGEST];
-    let mut at = 0usize;
+    let mut trace = Trace::at(text, 0);
     let mut pair = 1u64;
-    while at < text.len() {
-        let frame = reader::line_at(text, at);
-        let behind = at + frame.len();
-        if text.len() <= behind {
+    while trace.at < text.len() {
+        let frame = trace.next();
+        if text.len() <= trace.at {
             return Outcome::FrameLast;
         }
-        let given = reader::line_at(text, behind);
+        let given = trace.next();
         let fed = frames::feed(&mut engine, frame, &mut answer);
         if &answer[..fed.written] != given {
             return Outcome::Differs(pair);
         }
-        at = behind + given.len();
         pair += 1;
     }
     Outcome::AllAgree

@@ -1,3 +1,3 @@
-// Document 01's worked run, settled by computing. There is no code here. It stands apart because
-// computing it takes longer than all theorems of `protocol`.
+// The worked run and others in literal texts, settled by computing. There is no code here. They stand apart
+// because computing them takes longer than all theorems of `protocol`.
 #![tactic(auto)]

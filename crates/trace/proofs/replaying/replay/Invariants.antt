@@ -6,8 +6,8 @@ use Rattle.protocol.specs.Widths.{longest}
 use Rattle.trace.proofs.Going.{Going}
 use Rattle.trace.proofs.replaying.replay.Given as goal
 
-abbrev pub invariant-loop-at : goal.invariant-loop-at
-invariant-loop-at l = Going l.text l.at l.pair l.engine × (length l.answer ≡ longest)
+abbrev pub invariant-loop-trace : goal.invariant-loop-trace
+invariant-loop-trace l = Going l.text l.trace.at l.pair l.engine × (length l.answer ≡ longest) × (l.trace.text.now ≡ l.text)
 
-abbrev pub decreases-loop-at : goal.decreases-loop-at
-decreases-loop-at l = length l.text - l.at
+abbrev pub decreases-loop-trace : goal.decreases-loop-trace
+decreases-loop-trace l = length l.text - l.trace.at
