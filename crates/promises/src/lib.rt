@@ -19,7 +19,9 @@ ghost use Rattle.model.specs.declared.calls.Product.{Product};
 ghost use Rattle.model.specs.declared.calls.Verdict.TheVariants.{Granted};
 ghost use Rattle.model.specs.State.{fresh};
 ghost use Rattle.model.specs.Calls.{verdict, after};
-ghost use Rattle.model.specs.Demands.{Demand1, Demand3, engine_at};
+ghost use Rattle.model.specs.Limits.{Limits};
+ghost use Rattle.model.specs.Table.{Tabled};
+ghost use Rattle.model.specs.Demands.{Demand1, Demand3, engine_at, run_of};
 ghost use Rattle.model.specs.Meaning.{NumbersMean, SetsMean, QueryMeans, Means, ValueMeans, ReadMeans, ShowMeans, FreshMeans};
 ghost use Rattle.model.specs.Lasting.{Lasting};
 ghost use Rattle.model.specs.Products.{Products};
@@ -27,9 +29,11 @@ ghost use Rattle.model.specs.Steps.{StepsMean, Steps};
 ghost use Rattle.model.specs.Mandates.{NoMandate, Before, Mandates};
 ghost use Rattle.model.specs.Versions.{Versions};
 ghost use Rattle.graph.specs.Graph.{Joined};
+ghost use Rattle.protocol.specs.Widths.{Widths};
 ghost use Rattle.protocol.specs.Demands.{Exact, VersionsTold, ByteDemands, Piece, InPieces, Progress};
 ghost use Rattle.protocol.specs.Products.{ProductAnswers, ProductBytes};
 ghost use Rattle.worked.specs.Worked.{Settled};
+ghost use Rattle.worked.specs.Needed.{Needed};
 ghost use Rattle.digits.specs.Tables.{high_table, low_table};
 ghost use Rattle.decoding.specs.Frames.{next_by, LineAt};
 ghost use Rattle.engine.specs.Changed.{ChangedMeans};
@@ -80,13 +84,32 @@ pub fn line_feeds()
     ensures { FeedsMean }
 {}
 
-/// The worked run, the same in the term bank, and a run with a mandate, all in literal bytes: the
-/// program writes these answers, and the specification allows them.
+/// The worked run, the same in the term bank, a run with a mandate, and one with a frame of every kind
+/// and a line of every malformed sort, all in literal bytes: the program writes these answers, and the
+/// specification allows them.
 pub fn worked_runs()
     ensures { Settled }
 {}
 
+/// How many digits each field, a version and a role set have, and how long the longest frame and the
+/// longest answer are.
+pub fn widths()
+    ensures { Widths }
+{}
+
 // ---- every call
+
+/// Users 0 to 255, roles and databases 0 to 63, sessions 0 to 15 of each product, 8 flows a session,
+/// versions 0 to 4294967295.
+pub fn limits()
+    ensures { Limits }
+{}
+
+/// Each call is checked by the rows of the printed refusal table that name its kind, from the first to
+/// the last, but that forwarding is held to 5 before 3, and revoking to 15 before 9.
+pub fn refusal_table()
+    ensures { Tabled }
+{}
 
 /// Whatever an engine holds, a call that meets a row of the refusal table is refused with the number
 /// of the first such row, and the engine stays as it is. Every other call is accepted, and ends with
@@ -241,7 +264,7 @@ pub fn fresh_engine()
 /// when it is read, and in between no role was withdrawn from the user nor a permission from a role
 /// that the user then held.
 pub fn every_list()
-    ensures { (cs : List Call) → Demand3 cs }
+    ensures { (cs : List Call) → Demand3 (run_of cs) }
 {}
 
 /// In a session whose additions choose every conflicting role, no user is granted reads of two flows,
@@ -261,6 +284,12 @@ pub fn strict_as_answered()
 /// so the premise about what is taken back is needed.
 pub fn strict_run()
     ensures { StrictRun }
+{}
+
+/// Each premise of the promise about two flows is needed, and so is that of the rule for linkable:
+/// without it there is a list of calls that breaks the promise.
+pub fn premises_needed()
+    ensures { Needed }
 {}
 
 // ---- two products on one directory
@@ -302,6 +331,7 @@ pub fn steps_of_additions()
 {}
 
 /// For any tables, the three steps one after the other, as the code takes them, come to the role set.
+/// Above the last session they find nobody.
 pub fn steps_joined()
     ensures { Joined }
 {}
