@@ -14,7 +14,8 @@
 #     tools/build.sh linkage linkage_c
 #     library/check.sh target/bin/linkage
 # LINKAGE_LIB names another folder for the archive, SEED and ENGINES (2000) say
-# which random engines.  It needs cc and cargo, and nothing from a network.
+# which random engines.  It needs cc, and nothing from a network; where there is
+# no cargo it says so, and leaves out what is for Rust.
 set -u
 if [ $# -ne 1 ]; then
     echo "usage: check.sh PROGRAM" >&2
@@ -46,10 +47,17 @@ if command -v c++ > "$tmp/c++"; then
     c++ -std=c++11 -Wall -Wextra -pedantic -Werror -I"$here" -o "$tmp/example++" \
         -x c++ "$here/example.c" -x none "$archive" || exit 1
 fi
-export LINKAGE_LIB CARGO_TARGET_DIR="$tmp/cargo"
-cargo build --quiet --offline --locked --release --examples \
-    --manifest-path "$here/rust/Cargo.toml" || exit 1
-rust=$CARGO_TARGET_DIR/release/examples
+languages=C
+rust=
+if command -v cargo > "$tmp/cargo-is"; then
+    languages="C Rust"
+    export LINKAGE_LIB CARGO_TARGET_DIR="$tmp/cargo"
+    cargo build --quiet --offline --locked --release --examples \
+        --manifest-path "$here/rust/Cargo.toml" || exit 1
+    rust=$CARGO_TARGET_DIR/release/examples
+else
+    echo "no cargo: what is for Rust is not tried"
+fi
 
 # ---------------------------------------------------------------- examples
 echo "example.c:"
@@ -59,24 +67,28 @@ if [ -x "$tmp/example++" ]; then
     "$tmp/example++" | cmp - "$tmp/said" || exit 1
     echo "example.c as C++: the same"
 fi
-echo "rust/examples/read.rs:"
-"$rust/read" > "$tmp/said-rust" || exit 1
-cat "$tmp/said-rust"
-for said in said said-rust; do
-    grep '^user' "$tmp/$said" > "$tmp/$said.verdicts"
-done
-cmp "$tmp/said.verdicts" "$tmp/said-rust.verdicts" || exit 1
+if [ -n "$rust" ]; then
+    echo "rust/examples/read.rs:"
+    "$rust/read" > "$tmp/said-rust" || exit 1
+    cat "$tmp/said-rust"
+    for said in said said-rust; do
+        grep '^user' "$tmp/$said" > "$tmp/$said.verdicts"
+    done
+    cmp "$tmp/said.verdicts" "$tmp/said-rust.verdicts" || exit 1
+fi
 shown() { # LANGUAGE FILE: README has the file, word for word
     awk -v fence="\`\`\`$1" '$0 == fence { on = 1; next } /^```$/ { on = 0 } on' "$here/../README.md" |
         cmp - "$here/$2" || exit 1
 }
 shown c example.c
 shown rust rust/examples/read.rs
-cargo test --quiet --offline --locked --manifest-path "$here/rust/Cargo.toml" > "$tmp/tests" 2>&1 || {
-    cat "$tmp/tests"
-    exit 1
-}
-echo "rust tests: passed"
+if [ -n "$rust" ]; then
+    cargo test --quiet --offline --locked --manifest-path "$here/rust/Cargo.toml" > "$tmp/tests" 2>&1 || {
+        cat "$tmp/tests"
+        exit 1
+    }
+    echo "rust tests: passed"
+fi
 
 # ------------------------------------------------------------------- lists
 # The program's answers, list by list, and that all of them are the stored ones.
@@ -106,7 +118,7 @@ way() { # NAME COMMAND..
     echo "$name: $same of $lists lists agree, $agreed of $lines lines"
     [ "$same" -eq "$lists" ] && [ "$agreed" -eq "$lines" ] || different=1
 }
-for language in C Rust; do
+for language in $languages; do
     drive=$tmp/drive
     [ $language = C ] || drive=$rust/drive
     way "$language, frame by frame" "$drive" frames
