@@ -49,7 +49,7 @@
 #include <stddef.h>
 #include <stdint.h>
 
-#define LINKAGE_RELEASE "2.2.0"
+#define LINKAGE_RELEASE "2.3.0"
 
 #ifdef __cplusplus
 extern "C" {
