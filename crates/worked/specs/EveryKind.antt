@@ -4,7 +4,7 @@ use Rattle.std.specs.Prelude.{ℕ, false, List, [], ◌∷◌, ◌++◌, codes}
 use Rattle.worked.specs.Runs.{Pair, line}
 
 -- Parts 10 and 11 of docs/MODEL.md, "The calls" and "Returned when refused", in one run. A frame of every kind is accepted, with fields that are all
--- unequal: with any two of them exchanged its answer is another. Each kind is refused too, and lines of every sort are no frames.
+-- unequal: with any two of them exchanged some answer is another. Each kind is refused too, and lines of every sort are no frames.
 unfoldable pub every_kind : List Pair
 every_kind =
     -- the tables: the last user, role and database, and a number above
