@@ -1,2 +1,3 @@
+pub mod EveryKind
 pub mod Worked
 pub mod Needed

@@ -17,7 +17,10 @@ use Rattle.model.specs.Products.{opposite, swap}
 use Rattle.protocol.specs.Specification.{digits}
 use Rattle.protocol.proofs.Exact.{exact}
 use Rattle.protocol.proofs.ProductBytes.{product_bytes}
-use Rattle.worked.specs.Worked.{worked, duty, every_kind, unended, malformed, full_session, input_of, output_of, bank_digit, of_the_bank, bank_input_of, Settled}
+use Rattle.worked.specs.Runs.{input_of, output_of}
+use Rattle.worked.specs.EveryKind.{every_kind, unended, full_session}
+use Rattle.worked.specs.Worked.{worked, duty, bank_digit, of_the_bank, bank_input_of, Settled}
+use Rattle.worked.proofs.EveryKind.{kinds_by_computing, full_by_computing}
 
 texts : codes "0123456789abcdef" ≡ digits
 unfolding digits
@@ -30,14 +33,6 @@ by_computing = refl
 duty_by_computing : run (input_of duty) ≡ output_of duty
 unfolding has set_of some count inserted removed joined shared lacking meeting size_of there entered struck image onward level reach with_roles with_readers with_forwards with_mandates assigned withdrawn permitted revoked forwarded mandated held_by overlaps parents_of statically_reads empty_tables filled place set_place any_flow reach_with conflicts outside deny_before role_set linkable roleset_at given new_version first_of session_at fresh number_of returned verdict_of to_holders spent assign withdraw permit revoke forward mandate open_session conflicts_in conflicting with_flow add show links by_duty read answer_of change ask step answer after constraint_at digit all_digits number_from number glyph hex field rest_digits called_by called frame call_of role_sets values line_of with_byte split last_call calls_of shown_in reply replies run worked duty input_of output_of
 duty_by_computing = refl
-
-kinds_by_computing : run (input_of every_kind ++ unended) ≡ output_of every_kind ++ malformed
-unfolding has set_of some count inserted removed joined shared lacking meeting size_of there entered struck image onward level reach with_roles with_readers with_forwards with_mandates assigned withdrawn permitted revoked forwarded mandated held_by overlaps parents_of statically_reads empty_tables filled place set_place any_flow reach_with conflicts outside deny_before role_set linkable roleset_at given new_version first_of session_at fresh number_of returned verdict_of to_holders spent assign withdraw permit revoke forward mandate open_session conflicts_in conflicting with_flow add show links by_duty read answer_of change ask step answer after constraint_at digit all_digits number_from number glyph hex field rest_digits called_by called frame call_of role_sets values line_of with_byte split last_call calls_of shown_in reply replies run every_kind input_of output_of
-kinds_by_computing = refl
-
-full_by_computing : run (input_of full_session) ≡ output_of full_session
-unfolding has set_of some count inserted removed joined shared lacking meeting size_of there entered struck image onward level reach with_roles with_readers with_forwards with_mandates assigned withdrawn permitted revoked forwarded mandated held_by overlaps parents_of statically_reads empty_tables filled place set_place any_flow reach_with conflicts outside deny_before role_set linkable roleset_at given new_version first_of session_at fresh number_of returned verdict_of to_holders spent assign withdraw permit revoke forward mandate open_session conflicts_in conflicting with_flow add show links by_duty read answer_of change ask step answer after constraint_at digit all_digits number_from number glyph hex field rest_digits called_by called frame call_of role_sets values line_of with_byte split last_call calls_of shown_in reply replies run full_session input_of output_of
-full_by_computing = refl
 
 -- the bank's frames say the same calls, but for the product; so they are answered alike
 exchanged : calls_of (bank_input_of worked) ≡ map swap (calls_of (input_of worked))

@@ -1,2 +1,4 @@
+pub mod EveryKind
+pub mod Runs
 pub mod Worked
 pub mod Needed

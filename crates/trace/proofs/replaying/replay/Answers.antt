@@ -24,8 +24,7 @@ loop-trace-preserved c =
     let kept = c.loop-trace.invariant in
     let frame_here = rw kept.2 at c.next-frame.ensures.0 in
     let given_behind = rw (c.next-frame.ensures.1, kept.2, c.next-frame.ensures.2) at c.next-given.ensures.0 in
-    let some_left = rw c.next-frame.ensures.2 at c.if-text-trace.false in
-    (
+    let some_left = rw c.next-frame.ensures.2 at c.if-text-trace.false in (
       going_step _ _ _ _ kept.0 (omega (arith, c.if-text-gt-LIMIT.false)) (omega (arith, c.loop-trace-test.true)) _ frame_here (omega (arith, some_left)) _ given_behind _ _ _ _ c.feed-fed.ensures (omega (arith, kept.1))
           (rw (c.next-given.ensures.2, c.next-frame.ensures.2) (omega arith)) (omega arith) (told_same _ _ c.ne.ensures c.if-ne.false),
       search rules,
