@@ -3,11 +3,11 @@
 #
 # Tries what goes wrong around PROGRAM: input that can't be read, output that
 # can't be written, pipes that close, descriptors that don't block, calls that
-# are interrupted.  What it says on standard error, what it writes and how it
-# ends have to be as docs/FRAMES.md has them, and for PICTURE, where it is named,
-# as docs/PICTURE.md has them, and for REPLAY as docs/REPLAY.md has them; - in
-# place of PICTURE leaves that out.  A line for each case; it stops with status 1
-# at the first that differs.  It needs python3, and a C compiler for the last
+# are interrupted, words that it doesn't know.  What it says on standard error,
+# what it writes and its status have to be as docs/FRAMES.md has them, and for
+# PICTURE, where it is named, as docs/PICTURE.md has them, and for REPLAY as
+# docs/REPLAY.md has them; - in place of PICTURE leaves that out.  A line for each
+# case; it stops with status 1 at the first that differs.  It needs python3, and a C compiler for the last
 # cases.  From the root of the repository:
 #     reference/failures.sh target/bin/linkage target/bin/picture target/bin/replay
 set -u
@@ -25,7 +25,8 @@ fi
 
 # Calls that fail or move one byte, as the variables say: READS and WRITES name
 # for each call in turn what happens to it, i interrupted, a would have to wait,
-# e an I/O error, 1 one byte, - as usual.  Past the last of them all are as usual.
+# e an I/O error, 1 one byte, - as usual, z as usual up to one that moves nothing,
+# which is an I/O error.  Past the last of them all are as usual.
 cat > "$tmp/calls.c" <<'C'
 #define _GNU_SOURCE
 #include <errno.h>
@@ -38,6 +39,12 @@ static ssize_t turn(const char **at, const char *name, long call, int fd, const 
     if (!*at && !(*at = getenv(name)))
         *at = "";
     char what = **at;
+    if (what == 'z') {
+        ssize_t moved = syscall(call, fd, bytes, n);
+        if (moved != 0)
+            return moved;
+        what = 'e';
+    }
     if (what)
         ++*at;
     if (what == 'i' || what == 'a' || what == 'e') {
@@ -83,12 +90,17 @@ def run(n):
     return text(frames), text(answers)
 
 
+# A reason, with the number that the system has for it.
+def reason(error):
+    return b"%s (os error %d)" % (os.strerror(error).encode(), error)
+
+
 def not_read(n, error, who=b"linkage"):
-    return b"%s: lines after line %d were not read: %s\n" % (who, n, os.strerror(error).encode())
+    return b"%s: lines after line %d were not read: %s\n" % (who, n, reason(error))
 
 
 def not_written(n, error):
-    return b"linkage: answers after line %d were not written: %s\n" % (n, os.strerror(error).encode())
+    return b"linkage: answers after line %d were not written: %s\n" % (n, reason(error))
 
 
 def same(case, what, got, wanted):
@@ -109,7 +121,7 @@ FEW, FEW_ANSWERS = run(5)
 
 
 # One run whose streams are as `before` makes them; what it says, what it writes
-# to a pipe, and how it ends (0, or the signal's number below 0).
+# to a pipe, and its status (or a signal's number below 0).
 def start(before=None, close=(), stdin=None, stdout=subprocess.PIPE, stderr=subprocess.PIPE, env=None, command=(program,)):
     def ready():
         if before:
@@ -127,15 +139,20 @@ def file_of(text):
     return open(path, "rb")
 
 
-def simple(case, text, wanted_said, wanted_written=b"", ends=0, **words):
-    """A run on a file, to its end."""
+def simple(case, text, wanted_said, wanted_written=b"", ends=None, **words):
+    """A run on a file, to its end.  Its status is 0 where it is to say nothing, unless another is wanted,
+    and else the one for failures of that program."""
     with file_of(text) as f:
         p = start(stdin=words.pop("stdin", f), **words)
         written, said = p.communicate()
     same(case, "it says", said, wanted_said)
     same(case, "it writes", written, wanted_written)
-    same(case, "it ends", p.returncode, ends)
+    same(case, "it ends", p.returncode, ends_with(wanted_said) if ends is None else ends)
     right(case)
+
+
+def ends_with(said):
+    return 0 if not said else 1 if said.startswith(b"linkage: ") else 2
 
 
 simple("nothing goes wrong", FRAMES, b"", ANSWERS)
@@ -166,7 +183,7 @@ def filling(case, text, wanted, limit, wanted_said, **words):
         written = out.read()
     same(case, "the file has", written, wanted[:limit])
     same(case, "it says", said, wanted_said)
-    same(case, "it ends", p.returncode, 0)
+    same(case, "it ends", p.returncode, ends_with(wanted_said))
 
 
 for limit in limits:
@@ -199,7 +216,7 @@ def broken(case, text, answers):
     more, said = p.communicate()
     same(case, "it writes", written + more, answers)
     same(case, "it says", said, not_read(answers.count(b"\n"), errno.EIO))
-    same(case, "it ends", p.returncode, 0)
+    same(case, "it ends", p.returncode, 1)
     right(case)
 
 
@@ -211,7 +228,7 @@ for case, closed in (("a full disk, and errors closed", [2]), ("input, output an
                      ("input and errors closed", [0, 2])):
     with open("/dev/full", "wb") as full:
         p = start(stdin=file_of(FRAMES), stdout=full, stderr=None, close=closed)
-        same(case, "it ends", p.wait(), 0)
+        same(case, "it ends", p.wait(), 1)
     right(case)
 
 
@@ -229,8 +246,8 @@ def closing(case, before, ends):
     right(case)
 
 
-closing("a pipe that is closed", lambda: signal.signal(signal.SIGPIPE, signal.SIG_DFL), 0)
-closing("a pipe that is closed, the signal ignored", lambda: signal.signal(signal.SIGPIPE, signal.SIG_IGN), 0)
+closing("a pipe that is closed", lambda: signal.signal(signal.SIGPIPE, signal.SIG_DFL), 1)
+closing("a pipe that is closed, the signal ignored", lambda: signal.signal(signal.SIGPIPE, signal.SIG_IGN), 1)
 
 
 # ---- descriptors that don't block: the peer is slow, and the program takes
@@ -291,7 +308,7 @@ slow("neither blocks", True, True)
 
 
 # ---- signals while it waits: stopped and continued, and one that is ignored
-def signalled(case, input_waits, frames=FEW, wanted=FEW_ANSWERS, **words):
+def signalled(case, input_waits, frames=FEW, wanted=FEW_ANSWERS, ends=0, **words):
     its_in, our_out = os.pipe()
     if input_waits:
         waits(its_in)
@@ -305,7 +322,7 @@ def signalled(case, input_waits, frames=FEW, wanted=FEW_ANSWERS, **words):
     written, said = p.communicate()
     same(case, "it writes", written, wanted)
     same(case, "it says", said, b"")
-    same(case, "it ends", p.returncode, 0)
+    same(case, "it ends", p.returncode, ends)
     right(case)
 
 
@@ -326,10 +343,52 @@ for n in range(len(FEW_ANSWERS)):
     case = "a write that fails after %d bytes" % n
     same(case, "it writes", written, FEW_ANSWERS[:n])
     same(case, "it says", said, not_written(written.count(b"\n"), errno.EIO))
+    same(case, "it ends", p.returncode, 1)
 right("writes that fail after 0 to %d bytes" % n)
 simple("a last line without its line feed", FEW + b"06", b"", FEW_ANSWERS + b"01\n")
 simple("its answer can't be written", FEW + b"06", not_written(5, errno.EIO), FEW_ANSWERS,
        env={"LD_PRELOAD": LIBRARY, "WRITES": "-e"})
+
+
+# ---- the words: what a program says of itself is a status of 0, and a word that it doesn't know is refused
+# before anything is read
+def refused(case, command, asked, begin):
+    with file_of(FRAMES) as f:
+        p = start(stdin=f, command=command + asked)
+        written, said = p.communicate()
+        read = os.lseek(f.fileno(), 0, os.SEEK_CUR)
+    same(case, "it writes", written, b"")
+    same(case, "it says", (said[:len(begin)], said.count(b"\n"), said[-1:]), (begin, 1, b"\n"))
+    same(case, "it reads", read, 0)
+    same(case, "it ends", p.returncode, 2)
+    right(case, ", " + said.decode().rstrip()[len(begin):])
+
+
+def words(command):
+    name = os.path.basename(command[0])
+    for word in ("--help", "--version"):
+        case = "%s %s" % (name, word)
+        with file_of(FRAMES) as f:
+            p = start(stdin=f, command=command + [word])
+            written, said = p.communicate()
+            read = os.lseek(f.fileno(), 0, os.SEEK_CUR)
+        same(case, "it says", said, b"")
+        same(case, "it begins with its name, and ends a line", (written[:len(name) + 1], written[-1:]), (name.encode() + b" ", b"\n"))
+        same(case, "it reads", read, 0)
+        same(case, "it ends", p.returncode, 0)
+        with open("/dev/full", "wb") as full:
+            p = start(stdout=full, command=command + [word])
+            _, said = p.communicate()
+        same(case + ", a full disk", "it says", said[:len(name) + 2], name.encode() + b": ")
+        same(case + ", a full disk", "it ends", p.returncode, 1 if command[0] == program else 2)
+        right(case, ", " + written.decode().split("\n")[0])
+    for asked in (["FILE"], ["--hel"], [""], ["--help", "FILE"], ["FILE", "--help"], ["--version", "--version"], ["two\nlines"], [b"\xff"]):
+        refused("%s, asked for as %r" % (name, asked), command, asked, name.encode() + b": ")
+
+
+for command in ([program], replay, picture):
+    if command:
+        words(command)
 
 
 # ---- going over a recorded run: input that can't be read gives no number; where
@@ -343,7 +402,7 @@ def going_over(command):
     zeros, five, sixteen = b"%016x\n" % 0, b"%016x\n" % 5, b"10\n"
 
     def no_number(error):
-        return b"replay: the number was not written: %s\n" % os.strerror(error).encode()
+        return b"replay: the number was not written: %s\n" % reason(error)
 
     def no_lines(n, error):
         return not_read(n, error, b"replay")
@@ -355,12 +414,14 @@ def going_over(command):
         return {"LD_PRELOAD": LIBRARY, "READS": reads, "WRITES": writes}
 
     tried("nothing goes wrong", recorded, b"", zeros)
-    tried("its last line feed missing", few, b"", five)
+    tried("its last line feed missing", few, b"", five, 1)
+    tried("its last answer missing", few[:few.rfind(b"\n") + 1], b"", sixteen, 1)
+    tried("nothing", b"", b"", zeros)
     with open("/dev/full", "wb") as full:
         tried("a full disk", recorded, no_number(errno.ENOSPC), None, stdout=full)
         with file_of(recorded) as f:
             case = "a recorded run, a full disk, and errors closed"
-            same(case, "it ends", start(stdin=f, stdout=full, stderr=None, close=[2], command=command).wait(), 0)
+            same(case, "it ends", start(stdin=f, stdout=full, stderr=None, close=[2], command=command).wait(), 2)
             right(case)
     tried("output closed", recorded, no_number(errno.EBADF), close=[1])
     for limit in range(len(zeros)):
@@ -376,30 +437,31 @@ def going_over(command):
     os.close(folder)
     for n in (0, 4, 5, 6, 16, 17, 50):
         tried("a read that fails after %d bytes" % n, recorded, no_lines(recorded[:n].count(b"\n"), errno.EIO), env=calls(n * "1" + "e"))
-    tried("a read that fails where the end would be", recorded, no_lines(recorded.count(b"\n"), errno.EIO), env=calls("-e"))
+    tried("a read that fails where the end would be", recorded, no_lines(recorded.count(b"\n"), errno.EIO), env=calls("z"))
 
     # Of what is too long, one byte too many is read and nothing behind it.
     long = b"\n01\n" * (1 << 18)
     tried("the greatest length", long, b"", zeros)
-    tried("the greatest length, and then a read that fails", long, no_lines(1 << 19, errno.EIO), env=calls("-e"))
-    tried("one byte too many, and then a read that would fail", long + b"0", b"", sixteen, env=calls("-e"))
+    tried("the greatest length, and then a read that fails", long, no_lines(1 << 19, errno.EIO), env=calls("z"))
+    tried("one byte too many", long + b"0", b"", sixteen, 2)
+    tried("one byte too many, and then a read that would fail", long + b"0", b"", sixteen, 2, env=calls("z"))
     with open("/dev/zero", "rb") as endless:
-        tried("an input that does not end", b"", b"", sixteen, stdin=endless)
+        tried("an input that does not end", b"", b"", sixteen, 2, stdin=endless)
 
-    for case, handled, ends in (("a pipe that is closed", signal.SIG_DFL, 0),
-                                ("a pipe that is closed, the signal ignored", signal.SIG_IGN, 0)):
+    for case, handled, ends in (("a pipe that is closed", signal.SIG_DFL, 2),
+                                ("a pipe that is closed, the signal ignored", signal.SIG_IGN, 2)):
         unread, its_out = os.pipe()
         os.close(unread)
         tried(case, recorded, b"", None, ends, before=lambda: signal.signal(signal.SIGPIPE, handled), stdout=its_out)
         os.close(its_out)
     tried("calls that are interrupted", recorded, b"", zeros, env=calls("iiii", "iiii"))
     tried("calls that would have to wait", recorded, b"", zeros, env=calls("aaia", "aaia"))
-    tried("a byte at a time", few, b"", five, env=calls(200 * "1", 20 * "1"))
+    tried("a byte at a time", few, b"", five, 1, env=calls(200 * "1", 20 * "1"))
     tried("all of these", recorded, b"", zeros, env=calls(20 * "i1a", 20 * "i1a"))
     slow("a recorded run, an input that does not block", True, False, recorded, zeros, command=command)
     slow("a recorded run, neither blocks", True, True, recorded, zeros, command=command)
-    signalled("a recorded run, signals while it reads", False, few, five, command=command)
-    signalled("a recorded run, signals while it sleeps", True, few, five, command=command)
+    signalled("a recorded run, signals while it reads", False, few, five, 1, command=command)
+    signalled("a recorded run, signals while it sleeps", True, few, five, 1, command=command)
 
 
 if replay:
@@ -419,7 +481,7 @@ def no_lines(n, error):
 
 
 def not_whole(error):
-    return b"picture: the picture was not written whole: %s\n" % os.strerror(error).encode()
+    return b"picture: the picture was not written whole: %s\n" % reason(error)
 
 
 case = "a picture"
@@ -434,7 +496,7 @@ with open("/dev/full", "wb") as full:
     simple("a picture, a full disk", SET_UP, not_whole(errno.ENOSPC), None, stdout=full, command=ASKED)
     with file_of(SET_UP) as f:
         case = "a picture, a full disk, and errors closed"
-        same(case, "it ends", start(stdin=f, stdout=full, stderr=None, close=[2], command=ASKED).wait(), 0)
+        same(case, "it ends", start(stdin=f, stdout=full, stderr=None, close=[2], command=ASKED).wait(), 2)
         right(case)
 simple("a picture, output closed", SET_UP, not_whole(errno.EBADF), close=[1], command=ASKED)
 for limit in (1, 4095, 4096, 4097, 8192, 10000, len(PICTURE) - 1):
@@ -451,8 +513,8 @@ for n in (0, 4, 5, 6, 12, 19):
            command=ASKED, env={"LD_PRELOAD": LIBRARY, "READS": n * "1" + "e"})
 
 # ---- a pipe that nobody reads; a second write that fails; descriptors that don't block
-for case, handled, ends in (("a picture, a pipe that is closed", signal.SIG_DFL, 0),
-                            ("a picture, a pipe that is closed, the signal ignored", signal.SIG_IGN, 0)):
+for case, handled, ends in (("a picture, a pipe that is closed", signal.SIG_DFL, 2),
+                            ("a picture, a pipe that is closed, the signal ignored", signal.SIG_IGN, 2)):
     unread, its_out = os.pipe()
     os.close(unread)
     simple(case, SET_UP, b"", None, ends, before=lambda: signal.signal(signal.SIGPIPE, handled), stdout=its_out, command=ASKED)
@@ -465,14 +527,9 @@ slow("a picture, neither blocks", True, True, SET_UP, PICTURE, command=ASKED)
 
 # ---- asked for wrongly: a line on standard error, and no picture
 for asked in ([], ["server"], ["server", "00", "00"], ["servers", "00"], ["serve", "00"], ["Server", "00"], ["", "00"],
-              ["server", "0"], ["server", "10"], ["server", "0g"], ["server", "0A"], ["server", "000"], ["server", ""],
-              ["server", "01"], ["bank", "00"]):
-    case = "a picture, asked for as '%s'" % " ".join(asked)
-    with file_of(SET_UP) as f:
-        p = start(stdin=f, command=picture + asked)
-        written, said = p.communicate()
-    same(case, "it writes", written, b"")
-    same(case, "it says", (said[:9], said.count(b"\n"), said[-1:]), (b"picture: ", 1, b"\n"))
-    same(case, "it ends", p.returncode, 0)
-    right(case, ", " + said.decode().rstrip()[9:])
+              ["server", "0"], ["server", "10"], ["server", "0g"], ["server", "0A"], ["server", "000"], ["server", ""]):
+    refused("a picture, asked for as '%s'" % " ".join(asked), picture, asked, b"picture: ")
+for asked in (["server", "01"], ["bank", "00"]):
+    simple("a picture, asked for as '%s'" % " ".join(asked), SET_UP, b"picture: the session isn't open after these frames\n", b"", 1,
+           command=picture + asked)
 PYTHON

@@ -13,8 +13,8 @@ for name in "$@"; do
         mkdir -p target/staticlib
         cp "crates/$name/out/lib$name.a" target/staticlib/
     else
-        # rt builds a program by running it: here on no input, which it answers with nothing
-        (cd "crates/$name" && rt run < /dev/null)
+        # rt builds a program by running it: here it is asked for its release
+        (cd "crates/$name" && rt run -- --version)
         mkdir -p target/bin
         cp "crates/$name/out/$name" target/bin/
     fi

@@ -28,7 +28,7 @@ use Rattle.output.specs.Output.{ending, end_answer, end_written}
 use Rattle.frames.specs.Stream.{Feeds, takes_whole, ran_output, Ran}
 
 -- what the machine still writes at the end
-finish_ending : (e : Engine) (line : List ℕ) → finish e line ≡ ending (length line)
+pub finish_ending : (e : Engine) (line : List ℕ) → finish e line ≡ ending (length line)
 unfolding finish last_call replies reply answer step shown_in verdict_of line_of values returned number_of hex glyph ending
 finish_ending e [] = refl
 finish_ending e (b ∷ line) = refl

@@ -1,4 +1,4 @@
 mod Answering
 mod Feeding
-mod Endings
+pub mod Endings
 pub mod Framed

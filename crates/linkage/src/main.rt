@@ -1,71 +1,65 @@
-// The frame program: frames on standard input, answers on standard output, and on standard error what
-// could not be read or written. The engine is main's own and is lent for each piece of input.
-// The counts that come back from `frames` are cut to the lengths of the buffers, so that safety rests on
-// none of its contracts.
+//! The frame program: frames on standard input, answers on standard output, and on standard error what
+//! could not be read or written. It ends with 0 where all is read and every answer written, with 1 where
+//! that failed, and with 2 for words that it doesn't know.
 #![tactic(auto)]
 
-use streams::SENTENCE;
-use taking::{BUFFER, Held, Input};
+ghost use Rattle.std.specs.Prelude.{◌≡◌};
+ghost use Rattle.std.specs.Process.{exit_status};
 
-// How many lines are answered, and whether the output is still open. Kept: both are handed on, also where
-// it is closed.
-#[derive(Drop)]
-struct Shown {
-    lines: u64,
-    is_open: bool,
+use std::fmt::Display;
+use std::io;
+use std::process::ExitCode;
+use streams::words::{RELEASE, Task};
+use streams::{Patient, words};
+
+const HELP: &str = "\
+linkage < FRAMES > ANSWERS
+Reads frames, one a line, and writes an answer line for each, from a fresh engine.
+
+    --help      says this
+    --version   says the release
+
+Status: 0, all is read and answered; 1, something could not be read or written;
+2, unknown words, and then nothing is read.
+";
+
+// Says why the program ends, in a line on standard error, and with which status.
+fn ended<D: Display + Drop>(rt: HostRuntime, status: u8, why: D) -> ExitCode
+    ensures { exit_status result ≡ status }
+{
+    // Where that can't be written there is nobody to tell.
+    let _ = eprintln!(rt; "linkage: {why}");
+    ExitCode::from(status)
 }
 
-// Writes answers, and counts the lines that are written whole. Where not all are written it says so.
-fn show(rt: HostRuntime, answers: &[u8], lines: u64) -> Shown {
-    let mut output = rt.stdout();
-    let written = streams::write_all(rt, &mut output, answers);
-    let lines = streams::lines_and(lines, &answers[..written.end]);
-    if let Some(failure) = written.failure {
-        let mut text = [0u8; SENTENCE];
-        streams::say_after(
-            rt,
-            &mut text,
-            b"linkage: answers after line ",
-            lines,
-            b" were not written",
-            failure,
-        );
-    }
-    Shown {
-        lines,
-        is_open: written.failure.is_none(),
-    }
-}
-
-// Writes the answer to a last line that has no line feed.
-fn end(rt: HostRuntime, held: Held, output: &mut [u8; BUFFER]) {
-    if !held.is_open {
-        return;
-    }
-    if let Some(n) = frames::finish(held.filled, output) {
-        show(rt, streams::first(n, output), held.lines);
+// What is asked for instead of a run is said on standard output.
+fn said(rt: HostRuntime, written: io::Result<()>) -> ExitCode {
+    match written {
+        Ok(()) => ExitCode::SUCCESS,
+        Err(reason) => ended(rt, 1, reason),
     }
 }
 
-fn main(rt: HostRuntime) {
-    let mut engine = frames::fresh();
-    let mut input = Input::new();
-    let mut output = [0u8; BUFFER];
-    let mut source = rt.stdin();
-    // Kept: a loop by the turns that `Input::next` promises to leave fewer, which a `for` would not show; and
-    // a loop beside that of `picture`, which drops the answers.
-    while 0 < input.held.turns {
-        let fed = frames::feed(&mut engine, input.part(), &mut output);
-        let answers = streams::first(fed.written, &output);
-        let shown = show(rt, answers, input.held.lines);
-        input.next(
-            rt,
-            &mut source,
-            fed.consumed,
-            shown.lines,
-            shown.is_open,
-            b"linkage: lines after line ",
-        );
+// Answers all frames of standard input on standard output.
+fn run(rt: HostRuntime) -> ExitCode {
+    let mut source = Patient::new(rt.stdin(), rt);
+    let mut output = Patient::new(rt.stdout(), rt);
+    match streams::run(&mut source, &mut output) {
+        Ok(()) => ExitCode::SUCCESS,
+        Err(failure) if failure.is_closed_pipe() => ExitCode::FAILURE,
+        Err(failure) => ended(rt, 1, failure),
     }
-    end(rt, input.held, &mut output);
+}
+
+fn main(rt: HostRuntime) -> ExitCode {
+    let words = match words::given(&rt) {
+        Ok(words) => words,
+        Err(reason) => return ended(rt, 2, reason),
+    };
+    match words::asked(&words) {
+        Ok(Task::Work) => run(rt),
+        Ok(Task::Help) => said(rt, rt.print(HELP)),
+        Ok(Task::Version) => said(rt, println!(rt; "linkage {RELEASE}")),
+        Err(wrong) => ended(rt, 2, wrong),
+    }
 }

@@ -1,13 +1,13 @@
-// Runs stored lists of frames. Each argument names a file, which goes to a fresh engine in pieces
-// that cut lines anywhere; the answers go to standard output. The counts that come back are what is
-// tried here, so nothing rests on them.
+//! Runs stored lists of frames. Each word names a file, which goes to a fresh engine in pieces that cut
+//! lines anywhere; the answers go to standard output.
 #![tactic(auto)]
 
-ghost use Rattle.io.specs.Counts.{IsPrefixLen};
+ghost use Rattle.std.specs.Prelude.{◌≤◌, length, IfOk};
 
 use frames::LONGEST;
 use std::fs::File;
-use std::io::Print;
+use std::io::{Print, Read};
+use std::{env, io};
 
 // How many bytes of a file are held at a time.
 const PIECE: usize = 1000;
@@ -16,65 +16,44 @@ const PIECE: usize = 1000;
 // left of it is kept, and more is read behind it.
 const ROOM: usize = LONGEST + 45;
 
-// Writes answers. Where they can't be written there is nobody to tell.
-fn show(rt: HostRuntime, answers: &[u8]) {
-    let _ = rt.write_all(answers);
+// The first n bytes, or all where n is more. The counts that come back from `frames` are what is tried
+// here, so nothing rests on them.
+fn first(n: usize, bytes: &[u8]) -> &[u8] {
+    &bytes[..n.min(bytes.len())]
 }
 
-// Reads behind the first n bytes of a buffer, and gives the place behind what is read. A read that fails
-// reads nothing.
-// Kept: no `Result`, since a list ends where nothing more comes of it, whatever the reason.
-fn read_behind(rt: HostRuntime, file: &mut File, input: &mut [u8], n: usize) -> usize
-    ensures { IsPrefixLen result input.new }
+// Reads behind the first n bytes of a buffer, and gives the place behind what is read.
+fn read_behind(file: &mut File, input: &mut [u8], n: usize) -> io::Result<usize>
+    ensures { IfOk result (λ end. end ≤ length input.new) }
 {
-    let read = streams::read_behind(rt, file, input, n);
-    read.unwrap_or(streams::within(n, input))
-}
-
-// Whether nothing was read and no line was taken: the file is at its end.
-fn is_at_end(len: usize, filled: usize, taken: usize) -> bool {
-    filled <= len && taken == 0
-}
-
-// Writes the answer to a last line that has no line feed, of which this many bytes are left.
-fn end(rt: HostRuntime, len: usize) {
-    let mut output = [0u8; ROOM];
-    if let Some(n) = frames::finish(len, &mut output) {
-        show(rt, streams::first(n, &output));
-    }
+    let from = n.min(input.len());
+    let read = file.read(&mut input[from..])?;
+    Ok(from + read)
 }
 
 // Runs the list in an open file, from a fresh engine.
-// Kept: a buffer and how much of it is filled, since `frames::keep` is tried here as a maker calls it.
-fn run(rt: HostRuntime, file: &mut File) {
+// A buffer and how much of it is filled, since `frames::keep` is tried here as a maker calls it.
+fn run(rt: HostRuntime, file: &mut File) -> io::Result<()> {
     let mut engine = frames::fresh();
     let mut input = [0u8; PIECE];
     let mut output = [0u8; ROOM];
     let mut len = 0usize;
     for _ in 0..u64::MAX {
-        let filled = read_behind(rt, file, &mut input, len);
+        let filled = read_behind(file, &mut input, len)?;
         let fed = frames::feed(&mut engine, &input[..filled], &mut output);
-        show(rt, streams::first(fed.written, &output));
-        let taken = fed.consumed;
-        let is_last = is_at_end(len, filled, taken);
-        len = frames::keep(&mut input, taken, filled);
-        if is_last {
+        rt.write_all(first(fed.written, &output))?;
+        if filled <= len && fed.consumed == 0 {
             break;
         }
+        len = frames::keep(&mut input, fed.consumed, filled);
     }
-    end(rt, len);
+    let last = frames::finish(len, &mut output);
+    rt.write_all(first(last.unwrap_or(0), &output))
 }
 
-// Kept beside the like loop of `traces_try`: a function for both would take a closure, and no public function
-// has a `requires`, which such a one needs.
-fn main(rt: HostRuntime) {
-    let mut path = io::buffer();
-    for i in 1..usize::MAX {
-        let Some(length) = streams::argument(rt, i, &mut path) else {
-            break;
-        };
-        if let Some(mut file) = streams::open_or_say(rt, &path[..length]) {
-            run(rt, &mut file);
-        }
+fn main(rt: HostRuntime) -> io::Result<()> {
+    for name in env::args(&rt)?.skip(1) {
+        run(rt, &mut File::open(&rt, name)?)?;
     }
+    Ok(())
 }

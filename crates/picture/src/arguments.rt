@@ -1,11 +1,8 @@
-// The arguments: which session a picture is asked of.
+// The words of the command line: which session a picture is asked of.
 use model::Product;
-use std::env::{Env, FillError};
 use std::fmt;
 use std::fmt::{Display, Write};
-
-// How many bytes of an argument are looked at: one more than the longest right one has.
-const LONGEST: usize = 7;
+use streams::words;
 
 // A session of a product.
 #[derive(Clone, Copy)]
@@ -14,13 +11,20 @@ pub(crate) struct Asked {
     session: usize,
 }
 
-// Why there is no picture.
+// What the program is asked for.
+#[derive(Clone, Copy)]
+pub(crate) enum Task {
+    Draw(Asked),
+    Help,
+    Version,
+}
+
+// What is wrong with the words.
 #[derive(Clone, Copy)]
 pub(crate) enum Wrong {
     Words,
     Product,
     Session,
-    NotOpen,
 }
 
 impl Asked {
@@ -48,47 +52,39 @@ impl Display for Wrong {
             }
             Wrong::Product => "the product is server or bank",
             Wrong::Session => "the session has two digits, 00 to 0f",
-            Wrong::NotOpen => "the session isn't open after these frames",
         })
     }
 }
 
-// Whether there is an argument i.
-fn has_argument(rt: HostRuntime, i: usize) -> bool {
-    let mut word = [0u8; LONGEST];
-    !matches!(rt.arg(i, &mut word), Err(FillError::NotPresent))
-}
-
-// The product that the first argument names.
-fn product(rt: HostRuntime) -> Option<Product> {
-    let mut word = [0u8; LONGEST];
-    let n = rt.arg(1, &mut word).ok()?;
-    match &word[..n] {
-        b"server" => Some(Product::Server),
-        b"bank" => Some(Product::TermBank),
-        _ => None,
+// The product that a word names.
+fn product(word: &str) -> Result<Product, Wrong> {
+    match word {
+        "server" => Ok(Product::Server),
+        "bank" => Ok(Product::TermBank),
+        _ => Err(Wrong::Product),
     }
 }
 
-// The session that the second argument names.
-fn session(rt: HostRuntime) -> Option<usize> {
-    let mut word = [0u8; LONGEST];
-    let n = rt.arg(2, &mut word).ok()?;
-    match &word[..n] {
-        [b'0', digit @ (b'0'..=b'9' | b'a'..=b'f')] => {
-            Some(char::from(*digit).to_digit(16)? as usize)
-        }
-        _ => None,
+// The session that a word names.
+fn session(word: &str) -> Result<usize, Wrong> {
+    match word.as_bytes() {
+        [b'0', digit @ b'0'..=b'9'] => Ok(usize::from(*digit - b'0')),
+        [b'0', digit @ b'a'..=b'f'] => Ok(usize::from(*digit - b'a') + 10),
+        _ => Err(Wrong::Session),
     }
 }
 
-// Which session is asked for.
-pub(crate) fn read(rt: HostRuntime) -> Result<Asked, Wrong> {
-    if !has_argument(rt, 2) || has_argument(rt, 3) {
-        return Err(Wrong::Words);
+// What the words ask for.
+pub(crate) fn read(words: &[String]) -> Result<Task, Wrong> {
+    if let [first, second] = words {
+        return Ok(Task::Draw(Asked {
+            product: product(first.as_str())?,
+            session: session(second.as_str())?,
+        }));
     }
-    Ok(Asked {
-        product: product(rt).ok_or(Wrong::Product)?,
-        session: session(rt).ok_or(Wrong::Session)?,
-    })
+    match words::asked(words) {
+        Ok(words::Task::Help) => Ok(Task::Help),
+        Ok(words::Task::Version) => Ok(Task::Version),
+        _ => Err(Wrong::Words),
+    }
 }

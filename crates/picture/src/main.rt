@@ -1,7 +1,8 @@
-// A picture of a session, in the manner of Figure 2 of source document 000: `picture PRODUCT SESSION`
-// reads frames from standard input, as `linkage` does, and writes the session as they leave it to
-// standard output, as SVG. Answers are not written. What can't be read or written is said on standard
-// error.
+//! A picture of a session, in the manner of Figure 2 of the first paper (docs/MODEL.md, "The papers"):
+//! `picture PRODUCT SESSION` reads frames from standard input, as `linkage` does, and writes the session as
+//! they leave it to standard output, as SVG. Answers are not written. What can't be read or written is said
+//! on standard error. It ends with 0 where the picture is written, with 1 where the session isn't open, and
+//! with 2 for trouble.
 #![tactic(auto)]
 
 mod arguments;
@@ -14,52 +15,67 @@ mod page;
 mod panel;
 mod session;
 mod shapes;
+mod trouble;
 mod users;
 
-use arguments::Wrong;
-use model::Engine;
+use arguments::{Asked, Task};
 use session::Session;
-use taking::{BUFFER, Input};
+use std::fmt::Display;
+use std::io;
+use std::process::ExitCode;
+use streams::words::RELEASE;
+use streams::{Patient, words};
+use trouble::Trouble;
 
-// Carries out all frames of standard input. Their answers are dropped. Whether the input was read to its
-// end; where it wasn't, that is said.
-// Kept: a `bool` and no error, since nothing is left to say of it.
-fn carry_out(rt: HostRuntime, engine: &mut Engine) -> bool {
-    let mut input = Input::new();
-    let mut output = [0u8; BUFFER];
-    let mut source = rt.stdin();
-    // Kept: a loop by the turns that `Input::next` promises to leave fewer, which a `for` would not show.
-    while 0 < input.held.turns {
-        let fed = frames::feed(engine, input.part(), &mut output);
-        let answers = streams::first(fed.written, &output);
-        let lines = streams::lines_and(input.held.lines, answers);
-        input.next(
-            rt,
-            &mut source,
-            fed.consumed,
-            lines,
-            true,
-            b"picture: lines after line ",
-        );
-    }
-    input.held.is_open
-}
+const HELP: &str = "\
+picture PRODUCT SESSION < FRAMES > OUT.svg
+Runs frames from a fresh engine, and draws one session as they leave it: PRODUCT
+is server or bank, SESSION has two digits, 00 to 0f.
+
+    --help      says this
+    --version   says the release
+
+Status: 0, the picture is written; 1, the session isn't open after these frames;
+2, something could not be read or written, or wrong words.
+";
 
 // Reads the frames and writes the picture of the session that is asked for.
-fn picture(rt: HostRuntime) -> Result<(), Wrong> {
-    let asked = arguments::read(rt)?;
+fn picture(rt: HostRuntime, asked: Asked) -> Result<(), Trouble> {
     let mut engine = frames::fresh();
-    if carry_out(rt, &mut engine) {
-        let session = Session::of(&engine, asked.number()).ok_or(Wrong::NotOpen)?;
-        // What can't be written was said where that failed.
-        let _ = session::show(rt, asked, &session);
-    }
-    Ok(())
+    let mut source = Patient::new(rt.stdin(), rt);
+    streams::serve(&mut engine, &mut source, &mut io::sink()).map_err(Trouble::Frames)?;
+    let session = Session::of(&engine, asked.number()).ok_or(Trouble::NotOpen)?;
+    session::show(rt, asked, &session).map_err(Trouble::Picture)
 }
 
-fn main(rt: HostRuntime) {
-    if let Err(wrong) = picture(rt) {
-        // Where that can't be written there is nobody to tell.
-        let _ = eprintln!(rt; "picture: {wrong}");
+// Says why the program ends, in a line on standard error, and with which status.
+fn ended<D: Display + Drop>(rt: HostRuntime, status: u8, why: D) -> ExitCode {
+    // Where that can't be written there is nobody to tell.
+    let _ = eprintln!(rt; "picture: {why}");
+    ExitCode::from(status)
+}
+
+// How the program ends after this.
+fn after(rt: HostRuntime, done: Result<(), Trouble>) -> ExitCode {
+    match done {
+        Ok(()) => ExitCode::SUCCESS,
+        Err(trouble) if trouble.is_closed_pipe() => ExitCode::from(trouble.status()),
+        Err(trouble) => ended(rt, trouble.status(), trouble),
+    }
+}
+
+fn main(rt: HostRuntime) -> ExitCode {
+    let words = match words::given(&rt) {
+        Ok(words) => words,
+        Err(reason) => return ended(rt, trouble::STATUS, reason),
+    };
+    match arguments::read(&words) {
+        Ok(Task::Draw(asked)) => after(rt, picture(rt, asked)),
+        Ok(Task::Help) => after(rt, rt.print(HELP).map_err(Trouble::Picture)),
+        Ok(Task::Version) => after(
+            rt,
+            println!(rt; "picture {RELEASE}").map_err(Trouble::Picture),
+        ),
+        Err(wrong) => ended(rt, trouble::STATUS, wrong),
     }
 }

@@ -3,6 +3,8 @@ ghost use Rattle.std.specs.Prelude.{◌≡◌, []};
 
 use arrayvec::ArrayVec;
 use std::fmt;
+use std::io::Error;
+use streams::Patient;
 
 // How many bytes are held back before they are written.
 const ROOM: usize = 4096;
@@ -12,6 +14,8 @@ pub(crate) struct Page {
     // The handle that standard output is written by. A page that is only measured has none.
     output: Option<HostRuntime>,
     held: ArrayVec<u8, ROOM>,
+    // Why it could not be written on, which an error of formatting does not tell.
+    failure: Option<Error>,
 }
 
 impl Page {
@@ -20,6 +24,7 @@ impl Page {
         Page {
             output: None,
             held: ArrayVec::new(),
+            failure: None,
         }
     }
 
@@ -28,11 +33,16 @@ impl Page {
         Page {
             output: Some(rt),
             held: ArrayVec::new(),
+            failure: None,
         }
     }
 
-    // Writes what is held back, if the page is on standard output. Where not all can be written, that is
-    // said.
+    // Why it could not be written on.
+    pub(crate) fn failure(&self) -> Error {
+        self.failure.unwrap_or(Error::from(fmt::Error))
+    }
+
+    // Writes what is held back, if the page is on standard output.
     pub(crate) fn flush(&mut self) -> fmt::Result
         ensures { self.new.held.items ≡ [] }
     {
@@ -40,17 +50,14 @@ impl Page {
         let Some(rt) = self.output else {
             return Ok(());
         };
-        let mut output = rt.stdout();
-        let written = streams::write_or_say(
-            rt,
-            &mut output,
-            &held,
-            b"picture: the picture was not written whole",
-        );
-        if written.failure.is_some() {
-            return Err(fmt::Error);
+        let mut output = Patient::new(rt.stdout(), rt);
+        match streams::write_all(&mut output, &held) {
+            Ok(()) => Ok(()),
+            Err(short) => {
+                self.failure = Some(short.reason);
+                Err(fmt::Error)
+            }
         }
-        Ok(())
     }
 }
 

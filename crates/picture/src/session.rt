@@ -11,7 +11,7 @@ use super::shapes::{Class, Look, Point};
 use super::{flows, legend, overlaps, panel, shapes, users};
 use arrayvec::ArrayVec;
 use model::{Engine, Sessions};
-use std::fmt;
+use std::{fmt, io};
 use tables::Tables;
 
 // Where the columns begin.
@@ -134,20 +134,23 @@ fn whole(page: &mut Page, session: &Session) -> Result<usize, fmt::Error> {
     Ok(column.at.y)
 }
 
-// Writes the picture of the session that was asked for. It is measured before, since its height stands at
+// Draws the picture of the session that was asked for. It is measured before, since its height stands at
 // its start.
-pub(crate) fn show(rt: HostRuntime, asked: Asked, session: &Session) -> fmt::Result {
+fn draw(page: &mut Page, asked: Asked, session: &Session) -> fmt::Result {
     let height = whole(&mut Page::measured(), session)?;
-    let mut page = Page::written(rt);
-    legend::begin(&mut page, height)?;
+    legend::begin(page, height)?;
     let words = format_args!("The {asked}");
-    shapes::text(
-        &mut page,
-        Class::Plain(Look::Title),
-        Point::at(LEFT, 36),
-        words,
-    )?;
-    whole(&mut page, session)?;
-    legend::end(&mut page)?;
+    shapes::text(page, Class::Plain(Look::Title), Point::at(LEFT, 36), words)?;
+    whole(page, session)?;
+    legend::end(page)?;
     page.flush()
+}
+
+// Writes the picture of the session that was asked for.
+pub(crate) fn show(rt: HostRuntime, asked: Asked, session: &Session) -> io::Result<()> {
+    let mut page = Page::written(rt);
+    match draw(&mut page, asked, session) {
+        Ok(()) => Ok(()),
+        Err(_) => Err(page.failure()),
+    }
 }

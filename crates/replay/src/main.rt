@@ -1,50 +1,135 @@
-// Goes over a recorded run: it is read from standard input, and one line goes to standard output, the
-// number of the first pair whose answers differ. What can't be read or written is said on standard error.
+//! Goes over a recorded run: it is read from standard input, and one line goes to standard output, the
+//! number of the first pair whose answers differ. What can't be read or written is said on standard error.
+//! It ends with 0 where no pair differs, with 1 where one does or a frame lacks its answer, and with 2 for
+//! trouble.
 #![tactic(auto)]
 
-use std::io::Error;
-use streams::SENTENCE;
-use trace::LIMIT;
+ghost use Rattle.std.specs.Prelude.{◌≡◌, ◌≤◌, ◌↔◌, IfOk, IfSome};
+ghost use Rattle.std.specs.Io.KnownBytes.{Appends};
+ghost use Rattle.std.specs.Process.{exit_status};
+ghost use Rattle.trace.specs.Outcomes.{outcome, printed};
 
-// One byte more than a recorded run may have: one that fills this is too long, and no more of it is read.
-const ROOM: usize = LIMIT + 1;
+use std::alloc::Global;
+use std::fmt::{Display, Formatter};
+use std::io::{Error, ErrorKind, Read, Write};
+use std::process::ExitCode;
+use std::{fmt, io};
+use streams::words::{RELEASE, Task};
+use streams::{Patient, words};
+use trace::{LIMIT, Outcome};
 
-// Says that the input can't be read after these bytes of it.
-fn say(rt: HostRuntime, bytes: &[u8], failure: Error) {
-    let lines = streams::lines_and(0, bytes);
-    let mut text = [0u8; SENTENCE];
-    streams::say_after(
-        rt,
-        &mut text,
-        b"replay: lines after line ",
-        lines,
-        b" were not read",
-        failure,
-    );
+const HELP: &str = "\
+replay < RECORDED
+Runs the frames of a recorded run from a fresh engine, and writes the number of
+the first pair whose recorded answer is another: sixteen hexadecimal digits, all
+zeros where none is, or 10 where the last line is a frame or the file too long.
+
+    --help      says this
+    --version   says the release
+
+Status: 0, no pair differs; 1, one does, or the last line is a frame; 2, the file
+is too long, something could not be read or written, or unknown words.
+";
+
+// One byte more than a recorded run may have: one that has as many is too long, and no more of it is read.
+const ROOM: u64 = LIMIT as u64 + 1;
+
+// The status for trouble.
+const TROUBLE: u8 = 2;
+
+// Why there is no number: after this many lines the run could not be read, or the number not be written.
+#[derive(Clone, Copy)]
+enum Trouble {
+    Read { lines: usize, reason: Error },
+    Write { reason: Error },
 }
 
-// Goes over a recorded run and writes its line.
-fn show(rt: HostRuntime, bytes: &[u8]) {
-    let line = trace::printed_line(trace::replay(bytes));
-    streams::write_or_say(
-        rt,
-        &mut rt.stdout(),
-        &line,
-        b"replay: the number was not written",
-    );
-}
-
-// Reads a recorded run into a buffer and goes over it.
-fn run(rt: HostRuntime, file: &mut [u8]) {
-    let read = streams::fill(rt, &mut rt.stdin(), file);
-    let bytes = &file[..read.end];
-    match read.failure {
-        Some(failure) => say(rt, bytes, failure),
-        None => show(rt, bytes),
+impl Display for Trouble {
+    fn fmt<W: fmt::Write>(&self, f: &mut Formatter<W>) -> fmt::Result {
+        match *self {
+            Trouble::Read { lines, reason } => {
+                write!(f, "lines after line {lines} were not read: {reason}")
+            }
+            Trouble::Write { reason } => write!(f, "the number was not written: {reason}"),
+        }
     }
 }
 
-fn main(rt: HostRuntime) {
-    let mut file = [0u8; ROOM];
-    run(rt, &mut file);
+// Goes over the recorded run that a source has, and writes its line.
+fn go_over<R: Read + Drop, W: Write>(
+    alloc: Global,
+    source: R,
+    output: &mut W,
+) -> Result<Outcome, Trouble>
+    ensures outcome { IfOk result (λ found. IfSome (R.remaining source) (λ bytes. found ≡ outcome bytes)) }
+    ensures written { IfOk result (λ found. Appends (W.contents output.old) (W.contents output.new) (printed found)) }
+{
+    let mut bytes = Vec::new(alloc);
+    if let Err(reason) = source.take(ROOM).read_to_end(&mut bytes) {
+        let lines = streams::lines(&bytes);
+        return Err(Trouble::Read { lines, reason });
+    }
+    let found = trace::replay(&bytes);
+    match streams::write_all(output, &trace::printed_line(found)) {
+        Ok(()) => Ok(found),
+        Err(short) => Err(Trouble::Write {
+            reason: short.reason,
+        }),
+    }
+}
+
+// The status by which a run that was gone over is told.
+fn status(found: Outcome) -> u8
+    ensures agree { (result ≡ 0) ↔ (found ≡ Outcome.AllAgree) }
+    ensures long { (result ≡ 2) ↔ (found ≡ Outcome.TooLong) }
+    ensures most { result ≤ 2 }
+{
+    match found {
+        Outcome::AllAgree => 0,
+        Outcome::Differs(_) | Outcome::FrameLast => 1,
+        Outcome::TooLong => TROUBLE,
+    }
+}
+
+// Says what was the trouble, in a line on standard error.
+fn ended<D: Display + Drop>(rt: HostRuntime, why: D) -> ExitCode
+    ensures { exit_status result ≡ 2 }
+{
+    // Where that can't be written there is nobody to tell.
+    let _ = eprintln!(rt; "replay: {why}");
+    ExitCode::from(TROUBLE)
+}
+
+// What is asked for instead of a number is said on standard output.
+fn said(rt: HostRuntime, written: io::Result<()>) -> ExitCode {
+    match written {
+        Ok(()) => ExitCode::SUCCESS,
+        Err(reason) => ended(rt, reason),
+    }
+}
+
+// Goes over the recorded run of standard input. Of a pipe that its reader has closed nothing is said.
+fn run(rt: HostRuntime) -> ExitCode {
+    let source = Patient::new(rt.stdin(), rt);
+    let mut output = Patient::new(rt.stdout(), rt);
+    match go_over(rt.alloc(), source, &mut output) {
+        Ok(found) => ExitCode::from(status(found)),
+        Err(Trouble::Write { reason }) if reason.kind() == ErrorKind::BrokenPipe => {
+            ExitCode::from(TROUBLE)
+        }
+        Err(trouble) => ended(rt, trouble),
+    }
+}
+
+fn main(rt: HostRuntime) -> ExitCode {
+    let words = match words::given(&rt) {
+        Ok(words) => words,
+        Err(reason) => return ended(rt, reason),
+    };
+    match words::asked(&words) {
+        Ok(Task::Work) => run(rt),
+        Ok(Task::Help) => said(rt, rt.print(HELP)),
+        Ok(Task::Version) => said(rt, println!(rt; "replay {RELEASE}")),
+        Err(wrong) => ended(rt, wrong),
+    }
 }

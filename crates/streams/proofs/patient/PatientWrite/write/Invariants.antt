@@ -1,0 +1,6 @@
+-- A write that failed writes nothing.
+use Rattle.std.specs.Io.KnownBytes.{Keeps}
+use Rattle.streams.proofs.patient.PatientWrite.write.Given as goal
+
+abbrev pub invariant-loop : goal.invariant-loop
+invariant-loop g l = Keeps (g.W.Write.contents l.initial.self.stream) (g.W.Write.contents l.self.stream)

@@ -1,0 +1,21 @@
+-- A turn answers what is held and reads on behind what is kept of it; at the end of the input the last line is answered.
+use Rattle.std.proofs.Common.{◌<◌, ◌≤◌, length, arith}
+use Rattle.protocol.specs.Widths.{kept}
+use Rattle.streams.proofs.Laws.{on_ok, turned, ended_by, room_behind}
+use Rattle.streams.proofs.serving.serve.Goals as goal
+
+pub loop-preserved : goal.loop-preserved
+loop-preserved g c = (
+  omega arith,
+  omega arith,
+  omega (arith, c.in-Ok.ensures),
+  turned _ _ _ _ _ _ _ _ _ _ _ _ _ _ _ _ c.loop.invariant.3 c.in_ok-taken.ensures.answered c.in_ok-taken.ensures.unfinished c.keep-kept.ensures.0 c.keep-kept.ensures.1 (omega arith) c.in-Ok.ensures.unchanged c.in-Ok.ensures.consumed,
+)
+
+pub returns-in-Ok-2 : goal.returns-in-Ok-2
+returns-in-Ok-2 g c =
+    let seen = c.in-Ok.ensures in
+    let few : c.keep-kept.result ≤ kept = room_behind _ _ _ _ c.in_ok-taken.ensures.unfinished c.keep-kept.ensures.0 in
+    let last : c.in-Ok.place ≤ c.keep-kept.result = omega (arith, c.if-kept-place.false) in
+    let room : c.keep-kept.result < length c.keep-kept.new.buffer = omega arith in
+    on_ok c.end.result (ended_by _ _ _ _ _ _ _ _ _ _ _ _ _ _ _ _ c.loop.invariant.3 c.in_ok-taken.ensures.answered c.in_ok-taken.ensures.unfinished c.keep-kept.ensures.0 c.keep-kept.ensures.1 (omega (arith, seen.within)) seen.unchanged seen.consumed _ last (seen.at_end (omega (arith, last, seen.within)) room)) c.end.ensures

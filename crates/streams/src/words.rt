@@ -1,0 +1,63 @@
+//! The words of a command line, for programs that are asked for their work, their help or their release.
+use std::env::Env;
+use std::fmt::{Display, Formatter};
+use std::{env, fmt, io};
+
+/// The release that the programs are of: CHANGELOG names it, and `--version` says it.
+pub const RELEASE: &str = "2.3.0";
+
+/// What a program is asked for.
+#[derive(Clone, Copy, PartialEq, Eq, Debug)]
+pub enum Task {
+    /// No word: what the program is there for.
+    Work,
+    /// `--help`
+    Help,
+    /// `--version`
+    Version,
+}
+
+/// The first word that a program doesn't know, or that has no place behind those before it.
+#[derive(Clone, Copy)]
+pub struct WrongWord<'a> {
+    word: &'a str,
+}
+
+impl Display for WrongWord<'_> {
+    fn fmt<W: fmt::Write>(&self, f: &mut Formatter<W>) -> fmt::Result {
+        let word = self.word;
+        write!(f, "the word {word:?} is not known here, see --help")
+    }
+}
+
+// What a word alone asks for.
+fn named(word: &str) -> Option<Task> {
+    match word {
+        "--help" => Some(Task::Help),
+        "--version" => Some(Task::Version),
+        _ => None,
+    }
+}
+
+/// The words behind a program's name.
+pub fn given<R: Env + Alloc>(rt: &R) -> io::Result<Vec<String<R::A>, R::A>> {
+    Ok(env::args(rt)?.skip(1).collect(rt.alloc())?)
+}
+
+/// What the words ask of a program that takes none but these.
+pub fn asked<'a>(words: &'a [String]) -> Result<Task, WrongWord<'a>> {
+    let Some((first, others)) = words.split_first() else {
+        return Ok(Task::Work);
+    };
+    let Some(task) = named(first.as_str()) else {
+        return Err(WrongWord {
+            word: first.as_str(),
+        });
+    };
+    match others.first() {
+        Some(word) => Err(WrongWord {
+            word: word.as_str(),
+        }),
+        None => Ok(task),
+    }
+}
