@@ -55,7 +55,15 @@ fn ended<D: Display + Drop>(rt: HostRuntime, status: u8, why: D) -> ExitCode {
     ExitCode::from(status)
 }
 
-// How the program ends after this.
+// What is asked for instead of a picture is said on standard output.
+fn said(rt: HostRuntime, written: io::Result<()>) -> ExitCode {
+    match written {
+        Ok(()) => ExitCode::SUCCESS,
+        Err(reason) => ended(rt, trouble::STATUS, reason),
+    }
+}
+
+// How the program ends after it was asked for a picture.
 fn after(rt: HostRuntime, done: Result<(), Trouble>) -> ExitCode {
     match done {
         Ok(()) => ExitCode::SUCCESS,
@@ -71,11 +79,8 @@ fn main(rt: HostRuntime) -> ExitCode {
     };
     match arguments::read(&words) {
         Ok(Task::Draw(asked)) => after(rt, picture(rt, asked)),
-        Ok(Task::Help) => after(rt, rt.print(HELP).map_err(Trouble::Picture)),
-        Ok(Task::Version) => after(
-            rt,
-            println!(rt; "picture {RELEASE}").map_err(Trouble::Picture),
-        ),
+        Ok(Task::Help) => said(rt, rt.print(HELP)),
+        Ok(Task::Version) => said(rt, println!(rt; "picture {RELEASE}")),
         Err(wrong) => ended(rt, trouble::STATUS, wrong),
     }
 }

@@ -54,14 +54,14 @@ pub answered_start : (part : List ℕ) (e : Engine) (out : Option (List ℕ)) �
 answered_start part e out = record { within = omega arith; written = []; appended = Appends-nil out; completed = λ rest. refl }
 
 -- what is fed of the rest of the part, and the answers to it written behind those before
-pub answered_more : (room : ℕ) (part piece old new : List ℕ) (e₀ e e₁ : Engine) (o₀ o o₁ : Option (List ℕ)) (at : ℕ) (r : Given)
-    → Answered part e₀ e o₀ o at → piece ≡ drop at part → Feeds piece old new e₁ (fed room e piece) r → Appends o o₁ (take r.written new) → Answered part e₀ e₁ o₀ o₁ (at + r.consumed)
+pub answered_more : (room : ℕ) (part piece old new : List ℕ) (e₀ e e₁ : Engine) (o₀ o o₁ : Option (List ℕ)) (at to n : ℕ) (r : Given)
+    → Answered part e₀ e o₀ o at → piece ≡ drop at part → Feeds piece old new e₁ (fed room e piece) r → Appends o o₁ (take n new) → n ≡ r.written → to ≡ at + r.consumed → Answered part e₀ e₁ o₀ o₁ to
 unfolding more
-answered_more room part piece old new e₀ e e₁ o₀ o o₁ at r a same f w =
-    record {
+answered_more room part piece old new e₀ e e₁ o₀ o o₁ at to n r a same f w n_is to_is =
+    subst (Answered part e₀ e₁ o₀ o₁) (sym to_is) record {
       within = omega (arith, a.within, f.consumed, ap length same ∙ length-drop at part);
       written = a.written ++ x.written;
-      appended = Appends-trans o₀ o o₁ a.written x.written a.appended (subst (Appends o o₁) put w);
+      appended = Appends-trans o₀ o o₁ a.written x.written a.appended (subst (Appends o o₁) (ap (λ (k : ℕ). take k new) n_is ∙ put) w);
       completed = λ rest. a.completed rest ∙ ap (λ (l : List ℕ). a.written ++ l) (go_on rest) ∙ sym (append_assoc a.written x.written _);
     }
   where
@@ -90,10 +90,10 @@ pub answers_fit : (room : ℕ) (e e₁ : Engine) (piece old new : List ℕ) (r :
 answers_fit room e e₁ piece old new r q f = omega (arith, f.written, fed_fits room e piece)
 
 -- a piece of which nothing is taken has no whole line
-pub none_taken : (room : ℕ) (e e₁ : Engine) (part piece old new : List ℕ) (at : ℕ) (r : Given) → longest ≤ length old → r.consumed ≡ 0 → piece ≡ drop at part → Feeds piece old new e₁ (fed room e piece) r
-    → feed_at (drop (at + r.consumed) part) ≡ length (drop (at + r.consumed) part)
-none_taken room e e₁ part piece old new at r l z same f =
-    let here : at + r.consumed ≡ at = omega arith in
+pub none_taken : (room : ℕ) (e e₁ : Engine) (part piece old new : List ℕ) (at to : ℕ) (r : Given) → piece ≡ drop at part → Feeds piece old new e₁ (fed room e piece) r → longest ≤ length old → r.consumed ≡ 0 → to ≡ at + r.consumed
+    → feed_at (drop to part) ≡ length (drop to part)
+none_taken room e e₁ part piece old new at to r same f l z is =
+    let here : to ≡ at = omega arith in
     rw (here, ← same) (go (dec_lt (feed_at piece) (length piece)))
   where
     go : Dec (feed_at piece < length piece) → feed_at piece ≡ length piece
@@ -231,15 +231,16 @@ module _ (e₀ e e₁ : Engine) (s₀ s s₁ o₀ o o₁ : Option (List ℕ)) (i
       ∙ take_at (kept_of (between input taken filled)) (drop k input) k (sym many)
       ∙ kept_is
 
-  pub turned : Going e₀ s₀ o₀ e₁ s₁ o₁ (take place read)
-  turned =
-      subst (Going e₀ s₀ o₀ e₁ s₁ o₁) (ap (λ (xs : List ℕ). xs ++ drop k (take place read)) (sym front_is) ∙ take-append-drop k (take place read))
-      (going_on e₀ e e₁ s₀ s s₁ o₀ o o₁ (take filled input) (drop k (take place read)) taken g a q c)
+  pub turned : (filled₁ : ℕ) → filled₁ ≡ place → Going e₀ s₀ o₀ e₁ s₁ o₁ (take filled₁ read)
+  turned filled₁ is =
+      subst (λ (n : ℕ). Going e₀ s₀ o₀ e₁ s₁ o₁ (take n read)) (sym is)
+      (subst (Going e₀ s₀ o₀ e₁ s₁ o₁) (ap (λ (xs : List ℕ). xs ++ drop k (take place read)) (sym front_is) ∙ take-append-drop k (take place read))
+      (going_on e₀ e e₁ s₀ s s₁ o₀ o o₁ (take filled input) (drop k (take place read)) taken g a q c))
 
-  pub ended_by : (o₂ : Option (List ℕ)) → place ≤ k → IsAtEnd s₁ → Appends o₁ o₂ (ending k) → IfSome s₀ (λ text. Appends o₀ o₂ (replies e₀ (calls_of text)))
-  ended_by o₂ f n w =
+  pub ended_by : (o₂ : Option (List ℕ)) (m : ℕ) → place ≤ k → IsAtEnd s₁ → m ≡ k → Appends o₁ o₂ (ending m) → IfSome s₀ (λ text. Appends o₀ o₂ (replies e₀ (calls_of text)))
+  ended_by o₂ m f n is w =
       let none : drop k (take place read) ≡ [] = nil_from_length (drop k (take place read)) (length-drop k (take place read) ∙ omega (arith, l, f, length-take place read)) in
-      going_done e₀ e e₁ s₀ s s₁ o₀ o o₁ o₂ (take filled input) taken g a q (subst (Consumes s s₁) none c) n (subst (λ (m : ℕ). Appends o₁ o₂ (ending m)) (many ∙ ap length kept_is) w)
+      going_done e₀ e e₁ s₀ s s₁ o₀ o o₁ o₂ (take filled input) taken g a q (subst (Consumes s s₁) none c) n (subst (λ (m : ℕ). Appends o₁ o₂ (ending m)) (is ∙ many ∙ ap length kept_is) w)
 
 -- so little is kept of a part without a whole line that there is room behind it
 pub room_behind : (input : List ℕ) (taken filled k : ℕ) → feed_at (drop taken (take filled input)) ≡ length (drop taken (take filled input)) → k ≡ length (kept_of (between input taken filled)) → k ≤ kept

@@ -61,3 +61,51 @@ pub fn asked<'a>(words: &'a [String]) -> Result<Task, WrongWord<'a>> {
         None => Ok(task),
     }
 }
+
+#[cfg(test)]
+mod tests {
+    use super::*;
+    use std::alloc::AllocError;
+
+    #[test]
+    fn asks(rt: HostRuntime) -> Result<(), AllocError> {
+        for (line, task, why) in [
+            ("", Some(Task::Work), ""),
+            ("--help", Some(Task::Help), ""),
+            ("--version", Some(Task::Version), ""),
+            (
+                "--hel",
+                None,
+                "the word \"--hel\" is not known here, see --help",
+            ),
+            (
+                "FILE --help",
+                None,
+                "the word \"FILE\" is not known here, see --help",
+            ),
+            (
+                "--help FILE",
+                None,
+                "the word \"FILE\" is not known here, see --help",
+            ),
+            (
+                "--help --help",
+                None,
+                "the word \"--help\" is not known here, see --help",
+            ),
+        ] {
+            let words: Vec<String> = line
+                .split_whitespace()
+                .map(|word| word.to_string(rt.alloc()))
+                .try_collect(rt.alloc())?;
+            match asked(&words) {
+                Ok(found) => assert_eq!(rt; Some(found), task, "at {line}"),
+                Err(wrong) => {
+                    let said = wrong.to_string(rt.alloc())?;
+                    assert_eq!(rt; said.as_str(), why, "at {line}");
+                }
+            }
+        }
+        Ok(())
+    }
+}

@@ -9,7 +9,7 @@ loop-preserved g c = (
   omega arith,
   omega arith,
   omega (arith, c.in-Ok.ensures),
-  turned _ _ _ _ _ _ _ _ _ _ _ _ _ _ _ _ c.loop.invariant.3 c.in_ok-taken.ensures.answered c.in_ok-taken.ensures.unfinished c.keep-kept.ensures.0 c.keep-kept.ensures.1 (omega arith) c.in-Ok.ensures.unchanged c.in-Ok.ensures.consumed,
+  turned _ _ _ _ _ _ _ _ _ _ _ _ _ _ _ _ c.loop.invariant.3 c.in_ok-taken.ensures.answered c.in_ok-taken.ensures.unfinished c.keep-kept.ensures.0 c.keep-kept.ensures.1 (omega arith) c.in-Ok.ensures.unchanged c.in-Ok.ensures.consumed _ (omega arith),
 )
 
 pub returns-in-Ok-2 : goal.returns-in-Ok-2
@@ -18,4 +18,4 @@ returns-in-Ok-2 g c =
     let few : c.keep-kept.result ≤ kept = room_behind _ _ _ _ c.in_ok-taken.ensures.unfinished c.keep-kept.ensures.0 in
     let last : c.in-Ok.place ≤ c.keep-kept.result = omega (arith, c.if-kept-place.false) in
     let room : c.keep-kept.result < length c.keep-kept.new.buffer = omega arith in
-    on_ok c.end.result (ended_by _ _ _ _ _ _ _ _ _ _ _ _ _ _ _ _ c.loop.invariant.3 c.in_ok-taken.ensures.answered c.in_ok-taken.ensures.unfinished c.keep-kept.ensures.0 c.keep-kept.ensures.1 (omega (arith, seen.within)) seen.unchanged seen.consumed _ last (seen.at_end (omega (arith, last, seen.within)) room)) c.end.ensures
+    on_ok c.end.result (ended_by _ _ _ _ _ _ _ _ _ _ _ _ _ _ _ _ c.loop.invariant.3 c.in_ok-taken.ensures.answered c.in_ok-taken.ensures.unfinished c.keep-kept.ensures.0 c.keep-kept.ensures.1 (omega (arith, seen.within)) seen.unchanged seen.consumed _ _ last (seen.at_end (omega (arith, last, seen.within)) room) (omega (arith, last, seen.within))) c.end.ensures
