@@ -1,2 +1,4 @@
 pub mod Feeds
 pub mod Serving
+pub mod Words
+pub mod Failure

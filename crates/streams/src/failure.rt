@@ -1,4 +1,6 @@
 // What a program says where it could not go on.
+ghost use Rattle.std.specs.Prelude.{◌↔◌, IsTrue};
+
 use std::fmt;
 use std::fmt::{Display, Formatter};
 use std::io::{Error, ErrorKind};
@@ -11,9 +13,13 @@ pub enum Failure {
 }
 
 impl Failure {
+    ghost use Rattle.streams.specs.Failure.{IsClosedPipe};
+
     /// Whether the reader of a pipe has closed it. Nothing is said of that: whoever reads the first lines
     /// only has what was asked for.
-    pub fn is_closed_pipe(&self) -> bool {
+    pub fn is_closed_pipe(&self) -> bool
+        ensures { IsTrue result ↔ IsClosedPipe self.now }
+    {
         match *self {
             Failure::Read { .. } => false,
             Failure::Write { reason, .. } => reason.kind() == ErrorKind::BrokenPipe,

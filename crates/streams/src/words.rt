@@ -1,4 +1,7 @@
 //! The words of a command line, for programs that are asked for their work, their help or their release.
+ghost use Rattle.std.specs.Prelude.{◌≡◌, ◌≢◌, [], ◌∷◌, map, string_bytes, IfOk, IfErr, IfSome, IfNone};
+ghost use Rattle.streams.specs.Words.{words_for};
+
 use std::env::Env;
 use std::fmt::{Display, Formatter};
 use std::{env, fmt, io};
@@ -31,7 +34,10 @@ impl Display for WrongWord<'_> {
 }
 
 // What a word alone asks for.
-fn named(word: &str) -> Option<Task> {
+fn named(word: &str) -> Option<Task>
+    ensures known { IfSome result (λ task. word.now ∷ [] ≡ words_for task) }
+    ensures unknown { IfNone result ((task : Task) → word.now ∷ [] ≢ words_for task) }
+{
     match word {
         "--help" => Some(Task::Help),
         "--version" => Some(Task::Version),
@@ -45,7 +51,10 @@ pub fn given<R: Env + Alloc>(rt: &R) -> io::Result<Vec<String<R::A>, R::A>> {
 }
 
 /// What the words ask of a program that takes none but these.
-pub fn asked<'a>(words: &'a [String]) -> Result<Task, WrongWord<'a>> {
+pub fn asked<'a>(words: &'a [String]) -> Result<Task, WrongWord<'a>>
+    ensures known { IfOk result (λ task. map string_bytes words.now ≡ words_for task) }
+    ensures unknown { IfErr result (λ _. (task : Task) → map string_bytes words.now ≢ words_for task) }
+{
     let Some((first, others)) = words.split_first() else {
         return Ok(Task::Work);
     };
