@@ -19,7 +19,7 @@ use Rattle.std.specs.declared.option.Option.{Option}
 use Rattle.std.specs.Prelude.{Some, None, IfSome, Result, Ok, Err, OnOk}
 use Rattle.model.specs.declared.Engine.{Engine}
 use Rattle.protocol.specs.Widths.{longest, kept}
-use Rattle.protocol.specs.Run.{calls_of, replies, Fed, fed, feed_at, kept_of, finish}
+use Rattle.protocol.specs.Run.{calls_of, replies, Fed, fed, feed_at, kept_of}
 use Rattle.protocol.proofs.Laws.{NoFeed, more, more_end, more_capped, fed_more, fed_left, fed_fits, no_feed_of, no_feed_take, feed_at_le}
 use Rattle.frames.specs.declared.lent.Fed.{Fed as Given}
 use Rattle.frames.specs.Stream.{Feeds}
