@@ -4,8 +4,8 @@
     replay.py REPLAY
     replay.py stored
 
-The first runs REPLAY on many recorded runs and compares the line that it writes
-with what this script works out from the model's answers: the stored runs of
+The first runs REPLAY on many recorded runs and compares the line that it writes,
+and its status, with what this script works out from the model's answers: the stored runs of
 crates/traces_try; the stored lists of crates/lists_try with their answers, and
 each with single bytes changed; the worked run with each byte changed, deleted
 or doubled, with a byte put in at each place, and cut at each place; runs at the
@@ -60,6 +60,11 @@ def expected(run):
         if answer != line:
             return b"%016x\n" % n
     return b"10\n" if len(frames) > len(given) else ZEROS
+
+
+def status(run, wanted):
+    """0 where no pair differs, 2 where the run is too long, and else 1."""
+    return 2 if len(run) > LIMIT else 0 if wanted == ZEROS else 1
 
 
 def recorded(frames, answers=None):
@@ -209,7 +214,7 @@ class Tally:
         for way in ways:
             got = way(self.program, run)
             self.cases, self.here = self.cases + 1, self.here + 1
-            if (got.stdout, got.stderr, got.returncode) != (wanted, b"", 0):
+            if (got.stdout, got.stderr, got.returncode) != (wanted, b"", status(run, wanted)):
                 self.bad += 1
                 if self.bad <= 10:
                     print("%s %s: has %r, %r, ends %d; wanted %r; %d bytes: %r" % (

@@ -11,7 +11,7 @@ ghost use Rattle.trace.specs.Outcomes.{outcome, printed};
 
 use std::alloc::Global;
 use std::fmt::{Display, Formatter};
-use std::io::{Error, ErrorKind, Read, Write};
+use std::io::{BufReader, Error, ErrorKind, Read, Write};
 use std::process::ExitCode;
 use std::{fmt, io};
 use streams::words::{RELEASE, Task};
@@ -108,9 +108,13 @@ fn said(rt: HostRuntime, written: io::Result<()>) -> ExitCode {
     }
 }
 
-// Goes over the recorded run of standard input. Of a pipe that its reader has closed nothing is said.
+// Goes over the recorded run of standard input. It is read through a buffer, since a pipe of packets loses
+// what a read has no room for. Of a pipe that its reader has closed nothing is said.
 fn run(rt: HostRuntime) -> ExitCode {
-    let source = Patient::new(rt.stdin(), rt);
+    let source = match BufReader::new(rt.alloc(), Patient::new(rt.stdin(), rt)) {
+        Ok(source) => source,
+        Err(reason) => return ended(rt, reason),
+    };
     let mut output = Patient::new(rt.stdout(), rt);
     match go_over(rt.alloc(), source, &mut output) {
         Ok(found) => ExitCode::from(status(found)),

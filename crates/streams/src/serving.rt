@@ -18,12 +18,11 @@ const BUFFER: usize = 65536;
 
 // Reads behind the first n bytes of a buffer, which stay, and gives the place behind what is read. At the
 // end of the input that is the place where it was.
-#[tactic(auto, using(crate::proofs::Laws::got_in))]
 fn read_behind<R: Read>(source: &mut R, input: &mut [u8], n: usize) -> io::Result<usize>
     requires { n ≤ length input.old }
     ensures within { IfOk result (λ end. (n ≤ end) × (end ≤ length input.new)) }
     ensures unchanged { take n input.new ≡ take n input.old }
-    ensures consumed { OnOk result (IfOk result (λ end. Consumes (R.remaining source.old) (R.remaining source.new) (drop n (take end input.new)))) }
+    ensures consumed { IfOk result (λ end. Consumes (R.remaining source.old) (R.remaining source.new) (drop n (take end input.new))) }
     ensures at_end { IfOk result (λ end. end ≡ n → n < length input.old → IsAtEnd (R.remaining source.new)) }
 {
     let read = source.read(&mut input[n..])?;
