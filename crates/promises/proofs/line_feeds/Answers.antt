@@ -1,4 +1,4 @@
-use Rattle.streams.proofs.Laws.{feeds_mean}
+use Rattle.streams.proofs.LineFeeds.{feeds_mean}
 use Rattle.promises.proofs.line_feeds.Goals as goal
 
 pub returns : goal.returns
