@@ -61,7 +61,7 @@ moved_ledger cs ds i = ledger_after (old_ledger_after start (take i cs)) (take (
 unfoldable pub last_at : List Call → ℕ → ℕ
 last_at cs i = cond (ltb i (length cs)) old_last last_version
 
--- what demand 3 speaks of
+-- what `Demand3` speaks of
 abbrev pub moved_run : List Call → List Call → Run
 moved_run cs ds = record {
   calls = length (cs ++ ds);
@@ -72,7 +72,7 @@ moved_run cs ds = record {
   refusal = λ i. first_met (rows (last_at cs i) (moved_ledger cs ds i) (linked (moved_ledger cs ds i)) (call_at (cs ++ ds) i));
 }
 
--- demand 3 of such a run
+-- `Demand3` of such a run
 abbrev pub Moved : List Call → List Call → Type 0
 Moved cs ds = Demand3 (moved_run cs ds)
 

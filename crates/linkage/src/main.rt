@@ -7,8 +7,8 @@ ghost use Rattle.std.specs.Prelude.{◌≡◌};
 ghost use Rattle.std.specs.Process.{exit_status};
 
 use std::fmt::Display;
-use std::io;
 use std::process::ExitCode;
+use std::{env, io};
 use streams::words::{RELEASE, Task};
 use streams::{Patient, words};
 
@@ -51,8 +51,13 @@ fn run(rt: HostRuntime) -> ExitCode {
     }
 }
 
+// The words behind the program's name.
+fn given(rt: HostRuntime) -> io::Result<Vec<String>> {
+    Ok(env::args(&rt)?.skip(1).collect(rt.alloc())?)
+}
+
 fn main(rt: HostRuntime) -> ExitCode {
-    let words = match words::given(&rt) {
+    let words = match given(rt) {
         Ok(words) => words,
         Err(reason) => return ended(rt, 2, reason),
     };

@@ -154,13 +154,13 @@ abbrev pub SecondHalf : (run : Run) → (OneRead run → Type 0) → Type 0
 SecondHalf run Premise = (one : OneRead run) → Premise one → earlier_refusal (run.ledger one.i) (run.call one.i) ≡ 0
     → run.verdict one.i ≡ cond (linked (run.ledger one.i) one.product one.user one.session one.flow) (Refused Linkable) Granted
 
--- "The exact rule for 'linkable' covers reads outside a mandate" (K3)
+-- a read outside a mandate (docs/MODEL.md, "Reading by duty")
 abbrev pub OutsideMandate : {run : Run} → OneRead run → Type 0
 OutsideMandate {run} one = under_mandate (run.ledger one.i) one.user one.database ≡ false
 
 -- ---- its first half
 
--- "granted reads of two flows of one session" by one user, "in either order", "of one product's session" (K1): call i of flow f at database d, and later call j of flow g at database e
+-- "granted reads of two flows of one session" by one user, "in either order", of one product (docs/MODEL.md, "Two products on one directory"): call i of flow f at database d, and later call j of flow g at database e
 pub record TwoReads (run : Run) : Type 0 where
   pub i : ℕ
   pub j : ℕ
@@ -192,7 +192,7 @@ pub record HoldsDenied {run : Run} (two : TwoReads run) : Type 0 where
 abbrev pub NothingTaken : {run : Run} → TwoReads run → Type 0
 NothingTaken {run} two = (k : ℕ) (c : Change) → two.i < k → k < two.j → run.call k ≡ Table c → Accepted run k → takes_from (run.ledger k) two.user c ≡ false
 
--- "neither read was made under a mandate" (K3)
+-- neither read was made under a mandate (docs/MODEL.md, "Reading by duty")
 pub record OutsideMandates {run : Run} (two : TwoReads run) : Type 0 where
   pub first : under_mandate (run.ledger two.i) two.user two.d ≡ false
   pub second : under_mandate (run.ledger two.j) two.user two.e ≡ false

@@ -21,10 +21,10 @@ mod users;
 use arguments::{Asked, Task};
 use session::Session;
 use std::fmt::Display;
-use std::io;
 use std::process::ExitCode;
+use std::{env, io};
+use streams::Patient;
 use streams::words::RELEASE;
-use streams::{Patient, words};
 use trouble::Trouble;
 
 const HELP: &str = "\
@@ -72,8 +72,13 @@ fn after(rt: HostRuntime, done: Result<(), Trouble>) -> ExitCode {
     }
 }
 
+// The words behind the program's name.
+fn given(rt: HostRuntime) -> io::Result<Vec<String>> {
+    Ok(env::args(&rt)?.skip(1).collect(rt.alloc())?)
+}
+
 fn main(rt: HostRuntime) -> ExitCode {
-    let words = match words::given(&rt) {
+    let words = match given(rt) {
         Ok(words) => words,
         Err(reason) => return ended(rt, trouble::STATUS, reason),
     };

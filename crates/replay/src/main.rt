@@ -13,7 +13,7 @@ use std::alloc::Global;
 use std::fmt::{Display, Formatter};
 use std::io::{BufReader, Error, ErrorKind, Read, Write};
 use std::process::ExitCode;
-use std::{fmt, io};
+use std::{env, fmt, io};
 use streams::words::{RELEASE, Task};
 use streams::{Patient, words};
 use trace::{LIMIT, Outcome};
@@ -125,8 +125,13 @@ fn run(rt: HostRuntime) -> ExitCode {
     }
 }
 
+// The words behind the program's name.
+fn given(rt: HostRuntime) -> io::Result<Vec<String>> {
+    Ok(env::args(&rt)?.skip(1).collect(rt.alloc())?)
+}
+
 fn main(rt: HostRuntime) -> ExitCode {
-    let words = match words::given(&rt) {
+    let words = match given(rt) {
         Ok(words) => words,
         Err(reason) => return ended(rt, reason),
     };

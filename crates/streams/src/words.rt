@@ -2,9 +2,8 @@
 ghost use Rattle.std.specs.Prelude.{◌≡◌, ◌≢◌, [], ◌∷◌, map, string_bytes, IfOk, IfErr, IfSome, IfNone};
 ghost use Rattle.streams.specs.Words.{words_for};
 
-use std::env::Env;
+use std::fmt;
 use std::fmt::{Display, Formatter};
-use std::{env, fmt, io};
 
 /// The release that the programs are of: CHANGELOG names it, and `--version` says it.
 pub const RELEASE: &str = "2.3.0";
@@ -43,11 +42,6 @@ fn named(word: &str) -> Option<Task>
         "--version" => Some(Task::Version),
         _ => None,
     }
-}
-
-/// The words behind a program's name.
-pub fn given<R: Env + Alloc>(rt: &R) -> io::Result<Vec<String<R::A>, R::A>> {
-    Ok(env::args(rt)?.skip(1).collect(rt.alloc())?)
 }
 
 /// What the words ask of a program that takes none but these.

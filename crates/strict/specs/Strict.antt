@@ -32,7 +32,7 @@ AsAnswered cs p s = (i root chosen : ℕ) → call_at cs i ≡ Session p s (Add 
     → 0 < length ((ledger_at cs i).flows p s)
     → answer (engine_at cs i) (Session p s (Conflicting root)) ≡ Roles chosen
 
--- of such a session the first half of demand 3, and nothing is asked of the roles that the user holds
+-- `FirstHalf` of such a session, and nothing is asked of the roles that the user holds
 abbrev pub StrictFirst : List Call → Product → ℕ → Type 0
 StrictFirst cs p s = FirstHalf (run_of cs) (λ two. (two.product ≡ p) × (two.session ≡ s) × NothingTaken two × OutsideMandates two)
 

@@ -1,4 +1,4 @@
--- Each premise of demand 3 is needed: without it, some list of calls is against the claim.
+-- Each premise of the two halves of `Demand3` is needed: without it, some list of calls is against the claim.
 -- Assumes nothing.
 use Rattle.std.specs.Prelude.{List, ⊤}
 use Rattle.model.specs.declared.calls.Call.{Call}

@@ -1,4 +1,4 @@
--- docs/MODEL.md, "The worked run", with its stars, "with four zeros put before each version" (K4); a run with a mandate; and what is settled of all runs.
+-- docs/MODEL.md, "The worked run", with its stars and with versions of eight digits; a run with a mandate; and what is settled of all runs.
 -- Assumes nothing.
 use Rattle.std.specs.Prelude.{ℕ, ◌≡◌, cond, List, [], ◌∷◌, ◌++◌, eqb, codes}
 use Rattle.protocol.specs.Run.{run}
