@@ -4,4 +4,15 @@ use mathlib.Core.Path.{refl}
 use Rattle.model.specs.Limits.{Limits}
 
 pub limits : Limits
-limits = record { users = refl; roles = refl; databases = refl; sessions = refl; flows = refl; versions = refl }
+limits = record {
+  users = refl;
+  roles = refl;
+  databases = refl;
+  sessions = refl;
+  flows = refl;
+  versions = refl;
+  products = refl;
+  all_sessions = refl;
+  places = refl;
+  role_sets = refl;
+}

@@ -2,7 +2,7 @@
 -- Assumes nothing.
 use Rattle.std.specs.Prelude.{ℕ, ◌≡◌}
 use Rattle.tables.specs.Tables.{user_count, role_count, database_count}
-use Rattle.model.specs.declared.TheConstants.Engine.{SESSIONS, FLOWS, LAST_VERSION}
+use Rattle.model.specs.declared.TheConstants.Engine.{PRODUCTS, SESSIONS, ALL_SESSIONS, FLOWS, PLACES, ROLE_SETS, LAST_VERSION}
 
 -- sessions of each product
 abbrev pub session_count : ℕ
@@ -26,3 +26,8 @@ pub record Limits : Type 0 where
   pub flows : flow_count ≡ 8
   -- "versions 0–4294967295"
   pub versions : last_version ≡ 4294967295
+  -- two products on one directory; the sessions of both, places for all their flows, and role sets in all constraints
+  pub products : PRODUCTS ≡ 2
+  pub all_sessions : ALL_SESSIONS ≡ 32
+  pub places : PLACES ≡ 256
+  pub role_sets : ROLE_SETS ≡ 2048
