@@ -1,10 +1,11 @@
 -- What the search has done so far: a count that stops at two, and roles found user by user. And what it finds among a part of the sets.
 -- Assumes nothing.
-use Prim.Native.Nat.{ℕ, min, ◌+◌, ◌≤◌, ◌<◌, ◌^◌}
+use Prim.Native.Nat.{ℕ, zero, suc, min, ◌+◌, ◌≤◌, ◌<◌, ◌^◌}
 use mathlib.Core.Path.{◌≡◌, refl, sym, ap, ◌∙◌}
 use mathlib.Core.Bool.{Bool, true, false, not, ◌&&◌, ◌||◌, true≢false, and-false}
 use mathlib.Core.List.{List}
 use native.Mathlib.Numerals.{add-one}
+use native.Mathlib.Nat.{add-zero, add-suc}
 use native.Mathlib.Omega.{arith}
 use lib.Dec.{leb, eqb}
 use lib.Pow.{pow_pos}
@@ -96,3 +97,25 @@ conflicts_taken roles may n =
     same held =
         count_cong (length (take n may)) _ _ (λ g h. ap (meeting role_count held) (get_or-take n may g 0 (omega (arith, l))))
         ∙ sym (count_stops (length (take n may)) n _ (omega (arith, l)) (λ g h i. ap (meeting role_count held) (get_or-eq_default may 0 (omega (arith, l))) ∙ meets_none role_count held))
+
+-- so are k users in a row
+pub found_skipped : (n : ℕ) (roles : List ℕ) (two : ℕ → Bool) (u k found : ℕ) → Found n roles two u found
+    → ((i : ℕ) → i < k → lacking n (get_or roles (u + i) 0) found ≡ 0) → Found n roles two (u + k) found
+found_skipped n roles two u zero found g f = rw (add-zero u) g
+found_skipped n roles two u (suc k) found g f =
+    rw (add-suc u k, ← add-one (u + k))
+    (found_passed n roles two (u + k) found (get_or roles (u + k) 0) (found_skipped n roles two u k found g (λ i l. f i (omega (arith, l)))) refl (f k (omega arith)))
+
+either : (a b : Bool) → (a || b) ≡ false → (a ≡ false) × (b ≡ false)
+either true b e = absurd (true≢false e)
+either false b e = (refl, e)
+
+empty_by : (n x : ℕ) → x < 2 ^ n → ((r : ℕ) → r < n → has x r ≡ false) → x ≡ 0
+empty_by n x b f = is_set_of n x (λ r. has 0 r) b (λ r l. f r l ∙ sym (has_empty r)) ∙ sym (is_set_of n 0 (λ r. has 0 r) (pow_pos n) (λ r l. refl))
+
+-- what is joined to nothing was nothing
+pub joined_none : (n x y : ℕ) → x < 2 ^ n → y < 2 ^ n → joined n x y ≡ 0 → (x ≡ 0) × (y ≡ 0)
+joined_none n x y b c e = (empty_by n x b (λ r l. (both r l).0), empty_by n y c (λ r l. (both r l).1))
+  where
+    both : (r : ℕ) → r < n → (has x r ≡ false) × (has y r ≡ false)
+    both r l = either (has x r) (has y r) (sym (has_joined n x y r l) ∙ ap (λ (z : ℕ). has z r) e ∙ has_empty r)

@@ -3,8 +3,9 @@
 // Every public function answers for any numbers.
 #![tactic(auto)]
 
-ghost use Rattle.std.specs.Prelude.{◌≡◌, length};
-ghost use Rattle.tables.specs.Tables.{role_count};
+ghost use Rattle.std.specs.Prelude.{◌≡◌, length, ◌+◌, ◌≤◌, ◌<◌, ℕ, true, get_or};
+ghost use Rattle.sets.specs.Sets.{lacking};
+ghost use Rattle.tables.specs.Tables.{role_count, user_count};
 ghost use Rattle.model.specs.State.{outside};
 ghost use Rattle.search.specs.Search.{conflicts_of};
 
@@ -18,23 +19,40 @@ pub fn conflicts(roles: &[u64; Engine::USERS], may: &[u64]) -> u64
     ensures { result ≡ conflicts_of roles.now may.now (length may.now) }
 {
     let mut found = 0;
-    for held in roles {
-        if sets::difference(*held, found) != 0 {
-            let mut seen = 0usize;
-            'flows: for set in may {
-                if sets::meets(*held, *set) {
-                    seen += 1;
+    for block in 0..Engine::USERS / 8 {
+        if !are_found(roles, block * 8, found) {
+            for u in block * 8..block * 8 + 8 {
+                let held = roles[u];
+                if sets::difference(held, found) != 0 {
+                    let mut seen = 0usize;
+                    'flows: for set in may {
+                        if sets::meets(held, *set) {
+                            seen += 1;
+                            if seen == 2 {
+                                break 'flows;
+                            }
+                        }
+                    }
                     if seen == 2 {
-                        break 'flows;
+                        found = sets::union(found, held);
                     }
                 }
-            }
-            if seen == 2 {
-                found = sets::union(found, *held);
             }
         }
     }
     found
+}
+
+// Whether the roles of the eight users from a place on are all found already.
+fn are_found(roles: &[u64; Engine::USERS], from: usize, found: u64) -> bool
+    requires { from + 8 ≤ user_count }
+    ensures { result ≡ true → (i : ℕ) → i < 8 → lacking role_count (get_or roles.now (from + i) 0) found ≡ 0 }
+{
+    let mut left = sets::difference(roles[from], found);
+    for i in 1..8 {
+        left = sets::union(left, sets::difference(roles[from + i], found));
+    }
+    left == 0
 }
 
 // Whether some chosen role isn't conflicting.
