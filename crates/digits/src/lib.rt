@@ -2,7 +2,7 @@
 // loop makes them once and lends them to whatever reads a line.
 #![tactic(auto)]
 
-ghost use Rattle.std.specs.Prelude.{◌≡◌, ◌≤◌};
+ghost use Rattle.std.specs.Prelude.{◌≡◌, ◌≤◌, ◌+◌, get_or};
 ghost use Rattle.digits.specs.Tables.{digit_table, high_table, low_table, pair_by};
 
 // How many bytes there are: a table has an entry for each.
@@ -48,17 +48,21 @@ impl Digits {
         }
     }
 
+    // What two bytes count for together by any two tables.
+    pub fn sum(&self, first: u8, second: u8) -> usize
+        ensures { result ≡ get_or self.now.high first 0 + get_or self.now.low second 0 }
+    {
+        let high = usize::from(self.high[usize::from(first)]);
+        let low = usize::from(self.low[usize::from(second)]);
+        high + low
+    }
+
     // The number of two digits by any two tables, where it is below 256: by those of the digits, where both
     // bytes are digits.
     pub fn pair(&self, first: u8, second: u8) -> Option<usize>
         ensures { result ≡ pair_by self.now.high self.now.low first second }
     {
-        let high = usize::from(self.high[usize::from(first)]);
-        let low = usize::from(self.low[usize::from(second)]);
-        if high + low < 256 {
-            Some(high + low)
-        } else {
-            None
-        }
+        let sum = self.sum(first, second);
+        if sum < 256 { Some(sum) } else { None }
     }
 }
