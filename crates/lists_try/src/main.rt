@@ -51,9 +51,20 @@ fn run(rt: HostRuntime, file: &mut File) -> io::Result<()> {
     rt.write_all(first(last.unwrap_or(0), &output))
 }
 
+// Runs the list in the file that a path names.
+fn run_named(rt: HostRuntime, path: &str) -> io::Result<()> {
+    run(rt, &mut File::open(&rt, path)?)
+}
+
+// A list that can't be run to its end is said, and those behind it are run.
 fn main(rt: HostRuntime) -> io::Result<()> {
-    for name in env::args(&rt)?.skip(1) {
-        run(rt, &mut File::open(&rt, name)?)?;
+    let mut done = Ok(());
+    for path in env::args(&rt)?.skip(1) {
+        if let Err(reason) = run_named(rt, path.as_str()) {
+            // Where that can't be written there is nobody to tell.
+            let _ = eprintln!(rt; "{path}: {reason}");
+            done = Err(reason);
+        }
     }
-    Ok(())
+    done
 }

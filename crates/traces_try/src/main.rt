@@ -4,8 +4,9 @@
 #![tactic(auto)]
 
 use std::alloc::AllocError;
-use std::io::Print;
-use std::{env, fs, io};
+use std::fs::File;
+use std::io::{Print, Read};
+use std::{env, io};
 use trace::LIMIT;
 
 // How many bytes the longest of them has.
@@ -14,6 +15,15 @@ const ROOM: usize = LIMIT + 1;
 // Goes over a recorded run and writes its line.
 fn show(rt: HostRuntime, run: &[u8]) -> io::Result<()> {
     rt.write_all(&trace::printed_line(trace::replay(run)))
+}
+
+// Goes over the recorded run in the file that a path names. A byte too many says that it is too long.
+fn show_named(rt: HostRuntime, path: &str) -> io::Result<()> {
+    let mut run = Vec::new(rt.alloc());
+    File::open(&rt, path)?
+        .take(ROOM as u64)
+        .read_to_end(&mut run)?;
+    show(rt, &run)
 }
 
 // What stands at a place of a run whose frames are all empty: a line feed, and then 01 and a line feed.
@@ -39,11 +49,16 @@ fn spoiled(rt: HostRuntime, n: usize) -> Result<Vec<u8>, AllocError> {
     Ok(run)
 }
 
-// Made runs: with one byte less than a run may have, with as many, with one more; and the last two with an
-// answer that differs.
+// A file that can't be read is said, and those behind it are tried. Made runs: with one byte less than a run
+// may have, with as many, with one more; and the last two with an answer that differs.
 fn main(rt: HostRuntime) -> io::Result<()> {
-    for name in env::args(&rt)?.skip(1) {
-        show(rt, &fs::read(&rt, name)?)?;
+    let mut done = Ok(());
+    for path in env::args(&rt)?.skip(1) {
+        if let Err(reason) = show_named(rt, path.as_str()) {
+            // Where that can't be written there is nobody to tell.
+            let _ = eprintln!(rt; "{path}: {reason}");
+            done = Err(reason);
+        }
     }
     for n in [LIMIT - 1, LIMIT, ROOM] {
         show(rt, &made(rt, n)?)?;
@@ -51,5 +66,5 @@ fn main(rt: HostRuntime) -> io::Result<()> {
     for n in [LIMIT, ROOM] {
         show(rt, &spoiled(rt, n)?)?;
     }
-    Ok(())
+    done
 }
