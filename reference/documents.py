@@ -1,11 +1,12 @@
 #!/usr/bin/env python3
 """Holds the documents to the program and to the definitions that they name.
 
-usage: documents.py PROGRAM        from the root of the repository
+usage: documents.py PROGRAM REPLAY        from the root of the repository
 
 Examples: each line of a fenced block that has a frame and an answer is sent to the program. The blocks of
 docs/FRAMES.md and of docs/OFFICERS.md are one run each, those of docs/MAKERS.md and docs/MODEL.md a run for
-each block; and the frames of the first two are those of the stored list of that name.
+each block; and the frames of the first two are those of the stored list of that name. REPLAY goes over each
+input of the table of docs/REPLAY.md: what it prints is the row's, and its status that of the table below.
 Names: each name in docs/MODEL.md that has a file behind it, or in a column whose head names a file, is
 defined there.
 Prints a line for each document, and each difference. Exits 1 where there is one.
@@ -47,6 +48,43 @@ def examples(program, name, one_run, stored):
         if [frame for frame, _ in runs[0]] != listed:
             wrong.append("the frames are not those of " + stored)
     print("%s: %d frames in %d runs, %d differ" % (name, sum(map(len, runs)), len(runs), len(wrong)))
+    return wrong
+
+
+def recordings():
+    """The inputs of the examples of docs/REPLAY.md, with what is printed of each."""
+    recording = b""
+    text = pathlib.Path("docs/REPLAY.md").read_text()
+    for line in text[text.index("## Examples"):].splitlines():
+        if line.startswith("## ") and line != "## Examples":
+            return
+        cells = cells_of(line)
+        if not line.startswith("|") or not re.fullmatch("`[0-9a-f]+`", cells[1]):
+            continue
+        words = re.findall(r"`([^`]*)`", cells[0])
+        number = re.search(r"([0-9,]+) bytes|line ([0-9]+)", cells[0])
+        if cells[0].startswith("the same with "):
+            lines = recording.split(b"\n")
+            lines[int(number.group(2)) - 1] = words[0].encode()
+            given = b"\n".join(lines)
+        elif number:
+            given = bytes(int(number.group(1).replace(",", "")))
+        elif words and pathlib.Path(words[-1]).is_file():
+            given = recording = pathlib.Path(words[-1]).read_bytes()
+        else:
+            given = "".join(words).replace("\\n", "\n").encode()
+        yield cells[0], given, cells[1].strip("`")
+
+
+def replays(replay):
+    found = list(recordings())
+    wrong = []
+    for title, given, printed in found:
+        status = 2 if len(given) > 1048576 else 0 if printed == 16 * "0" else 1
+        p = subprocess.run([replay], input=given, stdout=subprocess.PIPE)
+        if (p.stdout, p.returncode) != (printed.encode() + b"\n", status):
+            wrong.append("%s: %r and status %d, not %s and %d" % (title, p.stdout, p.returncode, printed, status))
+    print("REPLAY.md: %d recordings, %d differ" % (len(found), len(wrong)))
     return wrong
 
 
@@ -102,15 +140,16 @@ def names():
 
 
 def main():
-    if len(sys.argv) != 2:
-        print("usage: documents.py PROGRAM", file=sys.stderr)
+    if len(sys.argv) != 3:
+        print("usage: documents.py PROGRAM REPLAY", file=sys.stderr)
         return 2
-    program = str(pathlib.Path(sys.argv[1]).resolve())
+    program, replay = (str(pathlib.Path(name).resolve()) for name in sys.argv[1:])
     wrong = []
     wrong += examples(program, "FRAMES.md", True, "frames.in")
     wrong += examples(program, "OFFICERS.md", True, "officers.in")
     wrong += examples(program, "MAKERS.md", False, None)
     wrong += examples(program, "MODEL.md", False, "worked.in")
+    wrong += replays(replay)
     named = list(names())
     missing = ["%s is not in %s" % pair for pair in named if not is_defined(*pair)]
     print("MODEL.md: %d names of definitions, %d not found" % (len(named), len(missing)))
