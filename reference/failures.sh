@@ -381,6 +381,13 @@ def words(command):
             _, said = p.communicate()
         same(case + ", a full disk", "it says", said[:len(name) + 2], name.encode() + b": ")
         same(case + ", a full disk", "it ends", p.returncode, 1 if command[0] == program else 2)
+        reader, closed = os.pipe()
+        os.close(reader)
+        p = start(stdout=closed, command=command + [word])
+        os.close(closed)
+        _, said = p.communicate()
+        same(case + ", a pipe that is closed", "it says", said, b"")
+        same(case + ", a pipe that is closed", "it ends", p.returncode, 1 if command[0] == program else 2)
         right(case, ", " + written.decode().split("\n")[0])
     for asked in (["FILE"], ["--hel"], [""], ["--help", "FILE"], ["FILE", "--help"], ["--version", "--version"], ["two\nlines"], [b"\xff"]):
         refused("%s, asked for as %r" % (name, asked), command, asked, name.encode() + b": ")

@@ -7,6 +7,7 @@ ghost use Rattle.std.specs.Prelude.{◌≡◌};
 ghost use Rattle.std.specs.Process.{exit_status};
 
 use std::fmt::Display;
+use std::io::ErrorKind;
 use std::process::ExitCode;
 use std::{env, io};
 use streams::words::{RELEASE, Task};
@@ -32,10 +33,12 @@ fn ended<D: Display + Drop>(rt: HostRuntime, status: u8, why: D) -> ExitCode
     ExitCode::from(status)
 }
 
-// What is asked for instead of a run is said on standard output.
+// What is asked for instead of a run is said on standard output. Of a pipe that its reader has closed nothing
+// is said.
 fn said(rt: HostRuntime, written: io::Result<()>) -> ExitCode {
     match written {
         Ok(()) => ExitCode::SUCCESS,
+        Err(reason) if reason.kind() == ErrorKind::BrokenPipe => ExitCode::FAILURE,
         Err(reason) => ended(rt, 1, reason),
     }
 }

@@ -21,6 +21,7 @@ mod users;
 use arguments::{Asked, Task};
 use session::Session;
 use std::fmt::Display;
+use std::io::ErrorKind;
 use std::process::ExitCode;
 use std::{env, io};
 use streams::Patient;
@@ -55,10 +56,12 @@ fn ended<D: Display + Drop>(rt: HostRuntime, status: u8, why: D) -> ExitCode {
     ExitCode::from(status)
 }
 
-// What is asked for instead of a picture is said on standard output.
+// What is asked for instead of a picture is said on standard output. Of a pipe that its reader has closed
+// nothing is said.
 fn said(rt: HostRuntime, written: io::Result<()>) -> ExitCode {
     match written {
         Ok(()) => ExitCode::SUCCESS,
+        Err(reason) if reason.kind() == ErrorKind::BrokenPipe => ExitCode::from(trouble::STATUS),
         Err(reason) => ended(rt, trouble::STATUS, reason),
     }
 }

@@ -100,10 +100,12 @@ fn ended<D: Display + Drop>(rt: HostRuntime, why: D) -> ExitCode
     ExitCode::from(TROUBLE)
 }
 
-// What is asked for instead of a number is said on standard output.
+// What is asked for instead of a number is said on standard output. Of a pipe that its reader has closed
+// nothing is said.
 fn said(rt: HostRuntime, written: io::Result<()>) -> ExitCode {
     match written {
         Ok(()) => ExitCode::SUCCESS,
+        Err(reason) if reason.kind() == ErrorKind::BrokenPipe => ExitCode::from(TROUBLE),
         Err(reason) => ended(rt, reason),
     }
 }
