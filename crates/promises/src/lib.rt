@@ -286,8 +286,8 @@ pub fn strict_run()
     ensures { StrictRun }
 {}
 
-/// Each premise of the promise about two flows is needed, and so is that of the rule for linkable:
-/// without it there is a list of calls that breaks the promise.
+/// Each premise of the promise about two flows is needed, and each part of it, and so is that of the
+/// rule for linkable: without it there is a list of calls that breaks the promise.
 pub fn premises_needed()
     ensures { Needed }
 {}
