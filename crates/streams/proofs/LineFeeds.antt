@@ -51,7 +51,7 @@ feeds_from n (b ∷ bs) = feeds_from (n + feed b) bs ∙ omega arith
 pub feeds_sum : (text : List ℕ) → sum_by feed text ≡ feeds text
 feeds_sum text = feeds_from 0 text ∙ omega arith
 
-feeds_append : (xs ys : List ℕ) → feeds (xs ++ ys) ≡ feeds xs + feeds ys
+pub feeds_append : (xs ys : List ℕ) → feeds (xs ++ ys) ≡ feeds xs + feeds ys
 unfolding feeds
 feeds_append [] ys = omega arith
 feeds_append (b ∷ bs) ys = let e : feeds (bs ++ ys) ≡ feeds bs + feeds ys = feeds_append bs ys in omega arith

@@ -1,10 +1,15 @@
 -- Why a program could not go on.
 -- Assumes nothing.
-use Rattle.std.specs.Prelude.{◌≡◌}
+use Rattle.std.specs.Prelude.{ℕ, ◌≡◌}
 use Rattle.std.specs.IoError.{error_kind}
 use Rattle.std.specs.declared.io.ErrorKind.TheVariants.{BrokenPipe}
 use Rattle.streams.specs.declared.failure.Failure.{Failure}
 use Rattle.streams.specs.declared.failure.Failure.TheVariants.{Read, Write}
+
+-- how many lines it says had been answered whole
+abbrev pub lines_of : Failure → ℕ
+lines_of (Read lines reason) = lines
+lines_of (Write lines reason) = lines
 
 -- answers could not be written since the reader of the pipe has closed it
 abbrev pub IsClosedPipe : Failure → Type 0

@@ -1,6 +1,6 @@
 // Counting lines.
-ghost use Rattle.std.specs.Prelude.{◌+◌, ◌<◌, min, ◌≡◌, ◌^◌, sum_by};
-ghost use Rattle.streams.specs.Feeds.{feeds};
+ghost use Rattle.std.specs.Prelude.{◌<◌, ◌≡◌, ◌^◌, sum_by};
+ghost use Rattle.streams.specs.Feeds.{counted_on, feeds};
 ghost use Rattle.streams.specs.Feeds.{feed as Feeds·feed};
 
 // How many bytes are counted at once: so few that the count fits a byte, which lets the compiler count
@@ -38,7 +38,7 @@ pub fn lines(text: &[u8]) -> usize
 
 // How many lines there are after those of a text are counted too, or the last number where that is less.
 pub(crate) fn lines_and(n: u64, text: &[u8]) -> u64
-    ensures { result ≡ min (n + feeds text.now) 18446744073709551615 }
+    ensures { result ≡ counted_on n text.now }
 {
     n.saturating_add(lines(text) as u64)
 }

@@ -1,10 +1,11 @@
 // An engine that is run on what a source has, in pieces of any size.
-ghost use Rattle.std.specs.Prelude.{◌≡◌, ◌≤◌, ◌<◌, length, take, drop, OnOk, IfOk, IfSome};
-ghost use Rattle.std.specs.Io.KnownBytes.{Appends, Consumes, IsAtEnd};
+ghost use Rattle.std.specs.Prelude.{ℕ, ◌≡◌, ◌≤◌, ◌<◌, List, ◌++◌, length, take, drop, OnOk, IfOk, IfErr, IfSome};
+ghost use Rattle.std.specs.Io.KnownBytes.{Appends, Consumes, IsAtEnd, Keeps};
 ghost use Rattle.protocol.specs.Run.{calls_of, feed_at, replies};
 ghost use Rattle.protocol.specs.Run.{run as Run·run};
 ghost use Rattle.output.specs.Output.{ending};
-ghost use Rattle.streams.specs.Serving.{Answered};
+ghost use Rattle.streams.specs.Feeds.{counted_on};
+ghost use Rattle.streams.specs.Serving.{Answered, Begun};
 
 use super::counting::lines_and;
 use super::failure::Failure;
@@ -24,6 +25,7 @@ fn read_behind<R: Read>(source: &mut R, input: &mut [u8], n: usize) -> io::Resul
     ensures unchanged { take n input.new ≡ take n input.old }
     ensures consumed { IfOk result (λ end. Consumes (R.remaining source.old) (R.remaining source.new) (drop n (take end input.new))) }
     ensures at_end { IfOk result (λ end. end ≡ n → n < length input.old → IsAtEnd (R.remaining source.new)) }
+    ensures kept { IfErr result (λ _. Keeps (R.remaining source.old) (R.remaining source.new)) }
 {
     let read = source.read(&mut input[n..])?;
     Ok(n + read)
@@ -31,7 +33,9 @@ fn read_behind<R: Read>(source: &mut R, input: &mut [u8], n: usize) -> io::Resul
 
 // Writes answers, and counts the lines that are written whole.
 fn show<W: Write>(output: &mut W, answers: &[u8], lines: u64) -> Result<u64, Failure>
-    ensures { OnOk result (Appends (W.contents output.old) (W.contents output.new) answers.now) }
+    ensures all { OnOk result (Appends (W.contents output.old) (W.contents output.new) answers.now) }
+    ensures counted { IfOk result (λ n. n ≡ counted_on lines answers.now) }
+    ensures begun { IfErr result (Begun lines answers.now (W.contents output.old) (W.contents output.new)) }
 {
     match write_all(output, answers) {
         Ok(()) => Ok(lines_and(lines, answers)),
@@ -43,7 +47,7 @@ fn show<W: Write>(output: &mut W, answers: &[u8], lines: u64) -> Result<u64, Fai
 }
 
 // Takes all whole lines of a part of the input, and writes their answers. Gives how many bytes that is.
-#[tactic(auto, using(crate::proofs::Laws::answered_start, crate::proofs::Laws::answers_fit, crate::proofs::Laws::none_left))]
+#[tactic(auto, using(crate::proofs::Laws::answers_fit, crate::proofs::Laws::none_left))]
 fn answer<W: Write>(
     engine: &mut Engine,
     part: &[u8],
@@ -51,9 +55,12 @@ fn answer<W: Write>(
     output: &mut W,
     lines: &mut u64,
 ) -> Result<usize, Failure>
-    ensures answered { IfOk result (Answered part.now engine.old engine.new (W.contents output.old) (W.contents output.new)) }
+    ensures answered { IfOk result (Answered part.now engine.old engine.new lines.old lines.new (W.contents output.old) (W.contents output.new)) }
     ensures unfinished { IfOk result (λ taken. feed_at (drop taken part.now) ≡ length (drop taken part.now)) }
+    ensures begun { IfErr result (λ failure. (rest : List ℕ) → Begun lines.old (replies engine.old (calls_of (part.now ++ rest))) (W.contents output.old) (W.contents output.new) failure) }
 {
+    // Read, so that it is known to fit.
+    let _before = *lines;
     let mut at = 0;
     while at < part.len() {
         let fed = frames::feed(engine, &part[at..], answers);
@@ -73,7 +80,8 @@ fn end<W: Write>(
     output: &mut W,
     lines: u64,
 ) -> Result<(), Failure>
-    ensures { OnOk result (Appends (W.contents output.old) (W.contents output.new) (ending len)) }
+    ensures all { OnOk result (Appends (W.contents output.old) (W.contents output.new) (ending len)) }
+    ensures begun { IfErr result (Begun lines (ending len) (W.contents output.old) (W.contents output.new)) }
 {
     if let Some(n) = frames::finish(len, answers) {
         show(output, &answers[..n], lines)?;
@@ -83,13 +91,14 @@ fn end<W: Write>(
 
 /// Runs an engine on all that a source has, in pieces that a buffer holds: the answers to what has been
 /// read are written before more is read. Where a read fails the input has not ended, and its unfinished
-/// last line stays unanswered.
+/// last line stays unanswered. A call that fails is not made again unless the stream is a `Patient` one.
 pub fn serve<R: Read, W: Write>(
     engine: &mut Engine,
     source: &mut R,
     output: &mut W,
 ) -> Result<(), Failure>
-    ensures { OnOk result (IfSome (R.remaining source.old) (λ input. Appends (W.contents output.old) (W.contents output.new) (replies engine.old (calls_of input)))) }
+    ensures all { OnOk result (IfSome (R.remaining source.old) (λ input. Appends (W.contents output.old) (W.contents output.new) (replies engine.old (calls_of input)))) }
+    ensures begun { IfErr result (λ failure. IfSome (R.remaining source.old) (λ input. Begun 0 (replies engine.old (calls_of input)) (W.contents output.old) (W.contents output.new) failure)) }
 {
     let mut input = [0u8; BUFFER];
     let mut answers = [0u8; BUFFER];
@@ -108,10 +117,12 @@ pub fn serve<R: Read, W: Write>(
     Err(Failure::Read { lines, reason })
 }
 
-/// The frame program's run: from a fresh engine, what is written is the run of what is read.
+/// The frame program's run: from a fresh engine, what is written is the run of what is read. A call that
+/// fails is not made again unless the stream is a `Patient` one.
 #[tactic(auto, unfolding(protocol::specs::Run::run))]
 pub fn run<R: Read, W: Write>(source: &mut R, output: &mut W) -> Result<(), Failure>
-    ensures { OnOk result (IfSome (R.remaining source.old) (λ input. Appends (W.contents output.old) (W.contents output.new) (Run·run input))) }
+    ensures all { OnOk result (IfSome (R.remaining source.old) (λ input. Appends (W.contents output.old) (W.contents output.new) (Run·run input))) }
+    ensures begun { IfErr result (λ failure. IfSome (R.remaining source.old) (λ input. Begun 0 (Run·run input) (W.contents output.old) (W.contents output.new) failure)) }
 {
     serve(&mut frames::fresh(), source, output)
 }
