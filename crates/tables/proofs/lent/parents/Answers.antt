@@ -12,7 +12,7 @@ loop-row-preserved c =
     let g = c.loop-row.invariant in
     let meets = sym c.meets.ensures in
     elim c.if-meets.branch [
-      | then-meets w ↦ parents_taken 64 _ _ _ _ _ g (meets ∙ w.if-meets.true) (w.found-is ∙ w.union-found.ensures)
+      | then-meets w ↦ parents_taken 64 _ _ _ _ _ g (meets ∙ w.if-meets.true) (grind arith)
       | else-meets w ↦ rw w.found-is (parents_left 64 _ _ _ _ g (meets ∙ w.if-meets.false))
     ]
 
