@@ -24,13 +24,29 @@ pub(crate) struct Names {
     left: usize,
 }
 
+// The digits of users, of whom a large picture has very many: `{u:02x}` takes several times as long.
+const DIGITS: [&str; 16] = [
+    "0", "1", "2", "3", "4", "5", "6", "7", "8", "9", "a", "b", "c", "d", "e", "f",
+];
+
+impl Name {
+    // Writes it. Lists do so on the page itself, without a formatter for each name.
+    fn put<W: Write>(self, text: &mut W) -> fmt::Result {
+        match self {
+            Name::Role(r) => write!(text, "R{r:x}"),
+            Name::Database(d) => write!(text, "D{d:x}"),
+            Name::User(u) => {
+                text.write_str("u")?;
+                text.write_str(DIGITS[u / 16 % 16])?;
+                text.write_str(DIGITS[u % 16])
+            }
+        }
+    }
+}
+
 impl Display for Name {
     fn fmt<W: Write>(&self, f: &mut fmt::Formatter<W>) -> fmt::Result {
-        match *self {
-            Name::Role(r) => write!(f, "R{r:x}"),
-            Name::Database(d) => write!(f, "D{d:x}"),
-            Name::User(u) => write!(f, "u{u:02x}"),
-        }
+        self.put(f)
     }
 }
 
@@ -49,6 +65,7 @@ impl Names {
             shapes::begin_text(column.page, Class::Plain(Look::Text), next)?;
         }
         self.left = self.left.saturating_sub(1);
-        write!(column.page, " {name}")
+        column.page.write_str(" ")?;
+        name.put(column.page)
     }
 }
