@@ -6,7 +6,7 @@ use Rattle.std.specs.declared.io.ErrorKind.TheVariants.{BrokenPipe}
 use Rattle.streams.specs.declared.failure.Failure.{Failure}
 use Rattle.streams.specs.declared.failure.Failure.TheVariants.{Read, Write}
 
--- how many lines it says had been answered whole
+-- how many lines it says were answered whole
 abbrev pub lines_of : Failure → ℕ
 lines_of (Read lines reason) = lines
 lines_of (Write lines reason) = lines

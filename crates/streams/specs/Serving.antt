@@ -17,7 +17,7 @@ pub record Answered (part : List ℕ) (before after : Engine) (lines_before line
   pub counted : lines_after ≡ counted_on lines_before written
   pub completed : (rest : List ℕ) → replies before (calls_of (part ++ rest)) ≡ written ++ replies after (calls_of (drop taken part ++ rest))
 
--- where a failure ends it: what was written to the output is the beginning of the whole answers, and the failure tells the lines counted before and those of what was written
+-- where a failure ends it: `whole` is what would be written; its beginning was, and the failure's number of lines is `lines_before` counted on by the line feeds of that
 pub record Begun (lines_before : ℕ) (whole : List ℕ) (old new : Option (List ℕ)) (failure : Failure) : Type 0 where
   pub written : List ℕ
   pub begins : StartsWith whole written

@@ -3,7 +3,8 @@
 //! line ask for (`words`).
 //!
 //! What a file, a pipe or a terminal gives or takes no contract can say. Of a reader and a writer whose
-//! bytes are known, it is promised that the answers to all that is read are written.
+//! bytes are known, it is promised that the answers to all that is read are written, and where that fails,
+//! that what is written is their beginning and how many lines it has.
 #![tactic(auto)]
 
 mod counting;

@@ -59,7 +59,7 @@ fn answer<W: Write>(
     ensures unfinished { IfOk result (λ taken. feed_at (drop taken part.now) ≡ length (drop taken part.now)) }
     ensures begun { IfErr result (λ failure. (rest : List ℕ) → Begun lines.old (replies engine.old (calls_of (part.now ++ rest))) (W.contents output.old) (W.contents output.new) failure) }
 {
-    // Read, so that it is known to fit.
+    // Read, so that it is known to fit 64 bits.
     let _before = *lines;
     let mut at = 0;
     while at < part.len() {
@@ -91,7 +91,8 @@ fn end<W: Write>(
 
 /// Runs an engine on all that a source has, in pieces that a buffer holds: the answers to what has been
 /// read are written before more is read. Where a read fails the input has not ended, and its unfinished
-/// last line stays unanswered. A call that fails is not made again unless the stream is a `Patient` one.
+/// last line stays unanswered. A call that a signal interrupts, or that would have to wait, is made again
+/// only where the stream is a `Patient` one.
 pub fn serve<R: Read, W: Write>(
     engine: &mut Engine,
     source: &mut R,
@@ -117,8 +118,8 @@ pub fn serve<R: Read, W: Write>(
     Err(Failure::Read { lines, reason })
 }
 
-/// The frame program's run: from a fresh engine, what is written is the run of what is read. A call that
-/// fails is not made again unless the stream is a `Patient` one.
+/// The frame program's run: from a fresh engine, what is written is the run of what is read. A call that a
+/// signal interrupts, or that would have to wait, is made again only where the stream is a `Patient` one.
 #[tactic(auto, unfolding(protocol::specs::Run::run))]
 pub fn run<R: Read, W: Write>(source: &mut R, output: &mut W) -> Result<(), Failure>
     ensures all { OnOk result (IfSome (R.remaining source.old) (λ input. Appends (W.contents output.old) (W.contents output.new) (Run·run input))) }

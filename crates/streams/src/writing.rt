@@ -13,7 +13,8 @@ pub struct Short {
 
 /// Writes all bytes, in as many writes as it takes. One that takes nothing is the last, since it would
 /// be made for ever. Unlike `Write::write_all` it tells how many were written where not all are. A call
-/// that fails is not made again unless the stream is a `Patient` one.
+/// that a signal interrupts, or that would have to wait, is made again only where the stream is a
+/// `Patient` one.
 #[tactic(auto, using(crate::proofs::Laws::put_more))]
 pub fn write_all<W: Write>(output: &mut W, bytes: &[u8]) -> Result<(), Short>
     ensures all { OnOk result (Appends (W.contents output.old) (W.contents output.new) bytes.now) }
