@@ -2,14 +2,14 @@
 -- Assumes nothing.
 use Prim.Native.Nat.{ℕ, suc, ◌+◌, ◌≤◌, ◌<◌}
 use mathlib.Core.Path.{◌≡◌, refl, sym, ◌∙◌}
-use mathlib.Core.Bool.{Bool, true, false, not, cond}
+use mathlib.Core.Bool.{Bool, true, false, cond}
 use mathlib.Core.List.{List, [], ◌∷◌}
 use native.Mathlib.Omega.{arith}
 use lib.Dec.{eqb}
 use lib.ListN.{length, take, drop, length-append, length-drop, drop_of_length-le}
 use lib.Pointwise.{pointwise}
 use lib.Seq.{drop-drop, take_at}
-use borrow.Author.Tests.{not-true, not-false, le-ltb, lt-ltb}
+use borrow.Author.Tests.{le-ltb, lt-ltb}
 use Rattle.model.specs.declared.Engine.{Engine}
 use Rattle.model.specs.State.{fresh}
 use Rattle.model.specs.Calls.{after}
@@ -113,15 +113,9 @@ too_long text l = rw (lt-ltb limit (length text) l)
 -- ---- the same bytes
 
 -- the library's `==` of bytes is the definition's
-same_bytes : (a b : List ℕ) → pointwise eqb a b ≡ same a b
+pub same_bytes : (a b : List ℕ) → pointwise eqb a b ≡ same a b
 unfolding same
 same_bytes [] [] = refl
 same_bytes [] (y ∷ ys) = refl
 same_bytes (x ∷ xs) [] = refl
 same_bytes (x ∷ xs) (y ∷ ys) = rw (same_bytes xs ys)
-
-pub told_apart : (a b : List ℕ) {t : Bool} → t ≡ not (pointwise eqb a b) → t ≡ true → same a b ≡ false
-told_apart a b h q = rw (← same_bytes a b) (not-true _ (sym h ∙ q))
-
-pub told_same : (a b : List ℕ) {t : Bool} → t ≡ not (pointwise eqb a b) → t ≡ false → same a b ≡ true
-told_same a b h q = rw (← same_bytes a b) (not-false _ (sym h ∙ q))

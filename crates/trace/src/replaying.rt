@@ -1,6 +1,6 @@
 // The pairs of a recorded run, one after another, on one engine.
 ghost use Rattle.std.specs.Prelude.{◌≡◌};
-ghost use Rattle.trace.specs.Outcomes.{outcome};
+ghost use Rattle.trace.specs.Outcomes.{same, outcome};
 
 use super::reader::Trace;
 use frames::LONGEST;
@@ -19,6 +19,14 @@ pub enum Outcome {
     FrameLast,
     // It has more bytes than it may have; no pair was run.
     TooLong,
+}
+
+// Whether two texts have the same bytes.
+#[tactic(auto, using(crate::proofs::Going::same_bytes))]
+fn is_same(a: &[u8], b: &[u8]) -> bool
+    ensures { result ≡ same a.now b.now }
+{
+    a == b
 }
 
 // Goes over a recorded run, from a fresh engine.
@@ -42,7 +50,7 @@ pub fn replay(text: &[u8]) -> Outcome
         }
         let given = trace.next();
         let fed = frames::feed(&mut engine, frame, &mut answer);
-        if &answer[..fed.written] != given {
+        if !is_same(&answer[..fed.written], given) {
             return Outcome::Differs(pair);
         }
         pair += 1;

@@ -1,16 +1,17 @@
+use mathlib.Core.Path.{sym, ◌∙◌}
 use native.Mathlib.Omega.{arith}
 use borrow.Author.Rules.{rules}
-use Rattle.trace.proofs.Going.{some_bytes, going_step, going_differs, told_apart, told_same}
+use Rattle.trace.proofs.Going.{some_bytes, going_step, going_differs}
 use Rattle.trace.proofs.replaying.replay.Goals as goal
 
-pub returns-then-ne : goal.returns-then-ne
-returns-then-ne c =
+pub returns-then-not-is_same : goal.returns-then-not-is_same
+returns-then-not-is_same c =
     let kept = c.loop-trace.invariant in
     let frame_here = rw kept.2 at c.next-frame.ensures.0 in
     let given_behind = rw (c.next-frame.ensures.1, kept.2, c.next-frame.ensures.2) at c.next-given.ensures.0 in
     let some_left = rw c.next-frame.ensures.2 at c.if-text-trace.false in
     going_differs _ _ _ _ kept.0 (omega (arith, c.if-text-gt-LIMIT.false)) (omega (arith, c.loop-trace-test.true)) _ frame_here (omega (arith, some_left)) _ given_behind _ _ _ _ c.feed-fed.ensures (omega (arith, kept.1))
-    (told_apart _ _ c.ne.ensures c.if-ne.true)
+    (sym c.is_same.ensures ∙ c.if-not-is_same.true)
 
 pub loop-trace-smaller : goal.loop-trace-smaller
 loop-trace-smaller c =
@@ -26,7 +27,7 @@ loop-trace-preserved c =
     let given_behind = rw (c.next-frame.ensures.1, kept.2, c.next-frame.ensures.2) at c.next-given.ensures.0 in
     let some_left = rw c.next-frame.ensures.2 at c.if-text-trace.false in (
       going_step _ _ _ _ kept.0 (omega (arith, c.if-text-gt-LIMIT.false)) (omega (arith, c.loop-trace-test.true)) _ frame_here (omega (arith, some_left)) _ given_behind _ _ _ _ c.feed-fed.ensures (omega (arith, kept.1))
-          (rw (c.next-given.ensures.2, c.next-frame.ensures.2) (omega arith)) (omega arith) (told_same _ _ c.ne.ensures c.if-ne.false),
+          (rw (c.next-given.ensures.2, c.next-frame.ensures.2) (omega arith)) (omega arith) (sym c.is_same.ensures ∙ c.if-not-is_same.false),
       search rules,
       rw (c.next-given.ensures.1, c.next-frame.ensures.1) kept.2,
     )
