@@ -25,8 +25,7 @@ fi
 
 # Calls that fail or move one byte, as the variables say: READS and WRITES name
 # for each call in turn what happens to it, i interrupted, a would have to wait,
-# e an I/O error, 1 one byte, - as usual, z as usual up to one that moves nothing,
-# which is an I/O error.  Past the last of them all are as usual.
+# e an I/O error, 1 one byte, - as usual.  Past the last of them all are as usual.
 cat > "$tmp/calls.c" <<'C'
 #define _GNU_SOURCE
 #include <errno.h>
@@ -39,12 +38,6 @@ static ssize_t turn(const char **at, const char *name, long call, int fd, const 
     if (!*at && !(*at = getenv(name)))
         *at = "";
     char what = **at;
-    if (what == 'z') {
-        ssize_t moved = syscall(call, fd, bytes, n);
-        if (moved != 0)
-            return moved;
-        what = 'e';
-    }
     if (what)
         ++*at;
     if (what == 'i' || what == 'a' || what == 'e') {
@@ -444,16 +437,26 @@ def going_over(command):
     os.close(folder)
     for n in (0, 4, 5, 6, 16, 17, 50):
         tried("a read that fails after %d bytes" % n, recorded, no_lines(recorded[:n].count(b"\n"), errno.EIO), env=calls(n * "1" + "e"))
-    tried("a read that fails where the end would be", recorded, no_lines(recorded.count(b"\n"), errno.EIO), env=calls("z"))
+    tried("a read that fails where the end would be", recorded, no_lines(recorded.count(b"\n"), errno.EIO), env=calls("-e"))
 
     # Of what is too long, one byte too many is read and nothing behind it.
     long = b"\n01\n" * (1 << 18)
     tried("the greatest length", long, b"", zeros)
-    tried("the greatest length, and then a read that fails", long, no_lines(1 << 19, errno.EIO), env=calls("z"))
+    tried("the greatest length, and then a read that fails", long, no_lines(1 << 19, errno.EIO), env=calls("-e"))
     tried("one byte too many", long + b"0", b"", sixteen, 2)
-    tried("one byte too many, and then a read that would fail", long + b"0", b"", sixteen, 2, env=calls("z"))
+    tried("one byte too many, and then a read that would fail", long + b"0", b"", sixteen, 2, env=calls("-e"))
     with open("/dev/zero", "rb") as endless:
         tried("an input that does not end", b"", b"", sixteen, 2, stdin=endless)
+    case = "a recorded run, a file of twice the greatest length"
+    with file_of(2 * long) as f:
+        p = start(stdin=f, command=command)
+        written, said = p.communicate()
+        read = os.lseek(f.fileno(), 0, os.SEEK_CUR)
+    same(case, "it writes", written, sixteen)
+    same(case, "it says", said, b"")
+    same(case, "it reads", read, len(long) + 1)
+    same(case, "it ends", p.returncode, 2)
+    right(case)
 
     for case, handled, ends in (("a pipe that is closed", signal.SIG_DFL, 2),
                                 ("a pipe that is closed, the signal ignored", signal.SIG_IGN, 2)):

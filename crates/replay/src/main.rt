@@ -4,14 +4,14 @@
 //! trouble.
 #![tactic(auto)]
 
-ghost use Rattle.std.specs.Prelude.{◌≡◌, ◌≤◌, ◌↔◌, IfOk, IfSome};
-ghost use Rattle.std.specs.Io.KnownBytes.{Appends};
+ghost use Rattle.std.specs.Prelude.{◌≡◌, ◌≤◌, ◌<◌, ◌↔◌, length, take, IfOk, IfSome, MatchResult};
+ghost use Rattle.std.specs.Io.KnownBytes.{Appends, Consumes, IsAtEnd};
 ghost use Rattle.std.specs.Process.{exit_status};
 ghost use Rattle.trace.specs.Outcomes.{outcome, printed};
 
 use std::alloc::Global;
 use std::fmt::{Display, Formatter};
-use std::io::{BufReader, Error, ErrorKind, Read, Write};
+use std::io::{Error, ErrorKind, Read, Write};
 use std::process::ExitCode;
 use std::{env, fmt, io};
 use streams::words::{RELEASE, Task};
@@ -32,7 +32,7 @@ is too long, something could not be read or written, or unknown words.
 ";
 
 // One byte more than a recorded run may have: one that has as many is too long, and no more of it is read.
-const ROOM: u64 = LIMIT as u64 + 1;
+const ROOM: usize = LIMIT + 1;
 
 // The status for trouble.
 const TROUBLE: u8 = 2;
@@ -55,21 +55,60 @@ impl Display for Trouble {
     }
 }
 
+// How many bytes were read before a read failed, and why it did.
+#[derive(Clone, Copy)]
+struct Short {
+    read: usize,
+    reason: Error,
+}
+
+// Reads until the bytes are full or the source ends, and gives how many were read. Each read is lent all
+// the room that is left, since what a message has no room for is lost.
+#[tactic(auto, using(crate::proofs::Read::read_on))]
+fn fill<R: Read>(source: &mut R, bytes: &mut [u8]) -> Result<usize, Short>
+    ensures within { MatchResult result (λ end. end ≤ length bytes.new) (λ short. short.read ≤ length bytes.new) }
+    ensures consumed { MatchResult result (λ end. Consumes (R.remaining source.old) (R.remaining source.new) (take end bytes.new)) (λ short. Consumes (R.remaining source.old) (R.remaining source.new) (take short.read bytes.new)) }
+    ensures at_end { IfOk result (λ end. end < length bytes.old → IsAtEnd (R.remaining source.new)) }
+{
+    let mut end = 0;
+    while end < bytes.len() {
+        match source.read(&mut bytes[end..]) {
+            Ok(0) => return Ok(end),
+            Ok(n) => end += n,
+            Err(reason) => return Err(Short { read: end, reason }),
+        }
+    }
+    Ok(end)
+}
+
 // Goes over the recorded run that a source has, and writes its line.
-fn go_over<R: Read + Drop, W: Write>(
+fn go_over<R: Read, W: Write>(
     alloc: Global,
-    source: R,
+    source: &mut R,
     output: &mut W,
 ) -> Result<Outcome, Trouble>
-    ensures outcome { IfOk result (λ found. IfSome (R.remaining source) (λ bytes. found ≡ outcome bytes)) }
+    ensures outcome { IfOk result (λ found. IfSome (R.remaining source.old) (λ bytes. found ≡ outcome bytes)) }
     ensures written { IfOk result (λ found. Appends (W.contents output.old) (W.contents output.new) (printed found)) }
 {
-    let mut bytes = Vec::new(alloc);
-    if let Err(reason) = source.take(ROOM).read_to_end(&mut bytes) {
-        let lines = streams::lines(&bytes);
-        return Err(Trouble::Read { lines, reason });
-    }
-    let found = trace::replay(&bytes);
+    let mut bytes = match vec![in alloc; 0u8; ROOM] {
+        Ok(bytes) => bytes,
+        Err(failure) => {
+            return Err(Trouble::Read {
+                lines: 0,
+                reason: Error::from(failure),
+            });
+        }
+    };
+    let end = match fill(source, &mut bytes) {
+        Ok(end) => end,
+        Err(short) => {
+            return Err(Trouble::Read {
+                lines: streams::lines(&bytes[..short.read]),
+                reason: short.reason,
+            });
+        }
+    };
+    let found = trace::replay(&bytes[..end]);
     match streams::write_all(output, &trace::printed_line(found)) {
         Ok(()) => Ok(found),
         Err(short) => Err(Trouble::Write {
@@ -110,15 +149,11 @@ fn said(rt: HostRuntime, written: io::Result<()>) -> ExitCode {
     }
 }
 
-// Goes over the recorded run of standard input. It is read through a buffer, since a pipe of packets loses
-// what a read has no room for. Of a pipe that its reader has closed nothing is said.
+// Goes over the recorded run of standard input. Of a pipe that its reader has closed nothing is said.
 fn run(rt: HostRuntime) -> ExitCode {
-    let source = match BufReader::new(rt.alloc(), Patient::new(rt.stdin(), rt)) {
-        Ok(source) => source,
-        Err(reason) => return ended(rt, reason),
-    };
+    let mut source = Patient::new(rt.stdin(), rt);
     let mut output = Patient::new(rt.stdout(), rt);
-    match go_over(rt.alloc(), source, &mut output) {
+    match go_over(rt.alloc(), &mut source, &mut output) {
         Ok(found) => ExitCode::from(status(found)),
         Err(Trouble::Write { reason }) if reason.kind() == ErrorKind::BrokenPipe => {
             ExitCode::from(TROUBLE)
