@@ -38,7 +38,8 @@ same_at_end (Some file) (Some rest) text found c e o = o ∙ go (dec_lt limit (l
     go (no h) = ap outcome (sym (append-nil text) ∙ ap (λ (xs : List ℕ). text ++ xs) (sym (e (omega arith))))
 
 -- the same of the first bytes of a buffer that has room for one too many
-pub cut_off : (n room end : ℕ) (before after : Option (List ℕ)) (bytes text : List ℕ) (found : Outcome) → limit < n → room ≡ n → end ≤ length bytes → Consumes before after (take end bytes) → (end < room → IsAtEnd after)
-    → text ≡ bytes → found ≡ outcome (take end text) → IfSome before (λ file. found ≡ outcome file)
-cut_off n room end before after bytes text found l r w c e t o =
-    same_at_end before after (take end bytes) found c (λ few. e (omega (arith, l, r, w, few, length-take end bytes))) (o ∙ ap (λ (xs : List ℕ). outcome (take end xs)) t)
+pub cut_off : (room end at : ℕ) (before after : Option (List ℕ)) (bytes text : List ℕ) (found : Outcome) → limit < room → end ≤ length bytes → Consumes before after (take end bytes) → (end < room → IsAtEnd after)
+    → text ≡ bytes → found ≡ outcome (take at text) → at ≡ end → IfSome before (λ file. found ≡ outcome file)
+cut_off room end at before after bytes text found l w c e t o same =
+    let seen : take at text ≡ take end bytes = ap (λ (n : ℕ). take n text) same ∙ ap (λ (xs : List ℕ). take end xs) t in
+    same_at_end before after (take end bytes) found c (λ few. e (omega (arith, l, w, few, length-take end bytes))) (o ∙ ap outcome seen)

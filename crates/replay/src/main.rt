@@ -9,7 +9,7 @@ ghost use Rattle.std.specs.Io.KnownBytes.{Appends, Consumes, IsAtEnd};
 ghost use Rattle.std.specs.Process.{exit_status};
 ghost use Rattle.trace.specs.Outcomes.{outcome, printed};
 
-use std::alloc::Global;
+use std::alloc::{AllocError, Global};
 use std::fmt::{Display, Formatter};
 use std::io::{Error, ErrorKind, Read, Write};
 use std::process::ExitCode;
@@ -81,6 +81,13 @@ fn fill<R: Read>(source: &mut R, bytes: &mut [u8]) -> Result<usize, Short>
     Ok(end)
 }
 
+// The room that a recorded run is read into.
+fn room(alloc: Global) -> Result<Vec<u8>, AllocError>
+    ensures { IfOk result (λ bytes. length bytes.items ≡ ROOM) }
+{
+    vec![in alloc; 0u8; ROOM]
+}
+
 // Goes over the recorded run that a source has, and writes its line.
 fn go_over<R: Read, W: Write>(
     alloc: Global,
@@ -90,7 +97,7 @@ fn go_over<R: Read, W: Write>(
     ensures outcome { IfOk result (λ found. IfSome (R.remaining source.old) (λ bytes. found ≡ outcome bytes)) }
     ensures written { IfOk result (λ found. Appends (W.contents output.old) (W.contents output.new) (printed found)) }
 {
-    let mut bytes = match vec![in alloc; 0u8; ROOM] {
+    let mut bytes = match room(alloc) {
         Ok(bytes) => bytes,
         Err(failure) => {
             return Err(Trouble::Read {
