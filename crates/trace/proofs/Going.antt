@@ -2,7 +2,7 @@
 -- Assumes nothing.
 use Prim.Native.Nat.{ℕ, suc, ◌+◌, ◌≤◌, ◌<◌}
 use mathlib.Core.Path.{◌≡◌, refl, sym, ◌∙◌}
-use mathlib.Core.Bool.{Bool, true, false, cond}
+use mathlib.Core.Bool.{true, false, cond, and-false}
 use mathlib.Core.List.{List, [], ◌∷◌}
 use native.Mathlib.Omega.{arith}
 use lib.Dec.{eqb}
@@ -119,3 +119,11 @@ same_bytes [] [] = refl
 same_bytes [] (y ∷ ys) = refl
 same_bytes (x ∷ xs) [] = refl
 same_bytes (x ∷ xs) (y ∷ ys) = rw (same_bytes xs ys)
+
+-- texts of different lengths are not the same
+pub other_length : (a b : List ℕ) → (length a ≡ length b → ⊥) → false ≡ same a b
+unfolding same
+other_length [] [] ne = absurd (ne refl)
+other_length [] (y ∷ ys) ne = refl
+other_length (x ∷ xs) [] ne = refl
+other_length (x ∷ xs) (y ∷ ys) ne = rw (← other_length xs ys (λ e. ne (omega (arith, e)))) (sym (and-false (eqb x y)))
