@@ -49,7 +49,7 @@
 #include <stddef.h>
 #include <stdint.h>
 
-#define LINKAGE_RELEASE "2.3.0"
+#define LINKAGE_RELEASE "2.3.1"
 
 #ifdef __cplusplus
 extern "C" {

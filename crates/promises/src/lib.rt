@@ -99,8 +99,8 @@ pub fn widths()
 
 // ---- every call
 
-/// Users 0 to 255, roles and databases 0 to 63, sessions 0 to 15 of each product, 8 flows a session,
-/// versions 0 to 4294967295.
+/// Users 0 to 255, roles and databases 0 to 63, two products, sessions 0 to 15 of each, 8 flows a session,
+/// versions 0 to 4294967295; so 32 sessions in all, 256 places for flows, and 2,048 role sets.
 pub fn limits()
     ensures { Limits }
 {}

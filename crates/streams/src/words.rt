@@ -6,7 +6,7 @@ use std::fmt;
 use std::fmt::{Display, Formatter};
 
 /// The release that the programs are of: CHANGELOG names it, and `--version` says it.
-pub const RELEASE: &str = "2.3.0";
+pub const RELEASE: &str = "2.3.1";
 
 /// What a program is asked for.
 #[derive(Clone, Copy, PartialEq, Eq, Debug)]
