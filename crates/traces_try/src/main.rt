@@ -17,13 +17,16 @@ fn show(rt: HostRuntime, run: &[u8]) -> io::Result<()> {
     rt.write_all(&trace::printed_line(trace::replay(run)))
 }
 
-// Goes over the recorded run in the file that a path names. A byte too many says that it is too long.
+// Goes over the recorded run in the file that a path names, as far as it can be read. A byte too many says
+// that it is too long.
 fn show_named(rt: HostRuntime, path: &str) -> io::Result<()> {
     let mut run = Vec::new(rt.alloc());
-    File::open(&rt, path)?
+    let read = File::open(&rt, path)?
         .take(ROOM as u64)
-        .read_to_end(&mut run)?;
-    show(rt, &run)
+        .read_to_end(&mut run);
+    show(rt, &run)?;
+    read?;
+    Ok(())
 }
 
 // What stands at a place of a run whose frames are all empty: a line feed, and then 01 and a line feed.
