@@ -17,9 +17,11 @@ const ON_A_LINE: usize = 32;
 pub(crate) struct Pair(pub(crate) usize, pub(crate) usize);
 
 impl Pair {
-    // Whether a user with these roles holds both.
+    // Whether a user with these roles holds both. By the set of both, which stays the same from user to user:
+    // all pairs of a large picture are looked for among all users.
     fn is_within(self, held: u64) -> bool {
-        sets::contains(held, self.0) && sets::contains(held, self.1)
+        let both = sets::insert(sets::insert(0, self.0), self.1);
+        sets::difference(both, held) == 0
     }
 
     // How many users hold both.
