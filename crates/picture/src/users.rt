@@ -42,7 +42,9 @@ impl Display for Pair {
     }
 }
 
-// The names of those who hold both roles, in an open text.
+// The names of those who hold both roles, in an open text. A function of its own in the program too: within
+// the one that draws the whole session its loop would keep its number in memory.
+#[inline(never)]
 fn users(column: &mut Column, roles: &[u64; Engine::USERS], pair: Pair) -> fmt::Result {
     let mut names = Names::new(ON_A_LINE);
     for (u, held) in roles.iter().enumerate() {
