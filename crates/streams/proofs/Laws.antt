@@ -11,7 +11,7 @@ use lib.ListN.{length, take, drop, take-append-drop, length-append, length-take,
 use lib.Seq.{drop-drop, take-add, take_at, take-append_seam, drop_at}
 use Rattle.std.proofs.Common.{subst}
 use Rattle.std.proofs.BufReadLemmas.{drop-take_min}
-use Rattle.std.proofs.KnownBytes.{Appends-trans, Appends-nil, starts_with_rest}
+use Rattle.std.proofs.KnownBytes.{Appends-trans, Appends-nil, Consumes-trans, Consumes-nil, starts_with_rest}
 use Rattle.std.proofs.lemmas.List.{nil_from_length, drop-take, take-append-le, take_rest, take-take, take_min}
 use Rattle.std.proofs.lemmas.Bool.{le-leb, le-ltb}
 use Rattle.std.specs.Io.{StartsWith}
@@ -30,7 +30,7 @@ use Rattle.output.specs.Output.{ending, end_answer, end_written}
 use Rattle.streams.specs.Feeds.{feeds, counted_on}
 use Rattle.streams.specs.Failure.{lines_of}
 use Rattle.streams.specs.declared.failure.Failure.{Failure}
-use Rattle.streams.specs.Serving.{Answered, Begun}
+use Rattle.streams.specs.Serving.{Answered, Begun, Drawn}
 use Rattle.streams.proofs.LineFeeds.{feeds_append}
 
 -- ---- what is read and written
@@ -211,16 +211,23 @@ module _ (old new : List ℕ) (len : ℕ) (r : Option ℕ) (l : 3 ≤ length old
 
 -- ---- a whole input, piece by piece
 
--- from an engine, a source's bytes and an output: what is written by now, its lines counted, and, where the source has these bytes still behind a part of the input, what the engine now answers to both completes the answers to all that the source had
-abbrev pub Going : Engine → Option (List ℕ) → Option (List ℕ) → Engine → ℕ → Option (List ℕ) → Option (List ℕ) → List ℕ → Type 0
-Going e₀ None o₀ e l left o part = Unit {0}
-Going e₀ (Some input) o₀ e l None o part = ⊥
-Going e₀ (Some input) o₀ e l (Some rest) o part = (written : List ℕ) × Appends o₀ o written × (l ≡ counted_on 0 written) × (replies e₀ (calls_of input) ≡ written ++ replies e (calls_of (part ++ rest)))
+-- from an engine, a source and an output: what the source has lost by now; what is written, and its lines counted; and, whatever comes behind a part of the input, what the engine now answers to both completes the answers to all that was read and that
+pub record Going (e₀ : Engine) (s₀ o₀ : Option (List ℕ)) (e : Engine) (l : ℕ) (s o : Option (List ℕ)) (part : List ℕ) : Type 0 where
+  pub read : List ℕ
+  pub consumed : Consumes s₀ s read
+  pub written : List ℕ
+  pub appended : Appends o₀ o written
+  pub counted : l ≡ counted_on 0 written
+  pub completed : (rest : List ℕ) → replies e₀ (calls_of (read ++ rest)) ≡ written ++ replies e (calls_of (part ++ rest))
 
 pub going_start : (e : Engine) (s o : Option (List ℕ)) (part : List ℕ) → part ≡ [] → Going e s o e 0 s o part
 unfolding feeds
-going_start e None o part q = tt
-going_start e (Some input) o part q = ([], Appends-nil o, omega arith, ap (λ (l : List ℕ). replies e (calls_of (l ++ input))) (sym q))
+going_start e s o part q =
+    record { read = []; consumed = Consumes-nil s; written = []; appended = Appends-nil o; counted = omega arith; completed = λ rest. ap (λ (l : List ℕ). replies e (calls_of (l ++ rest))) (sym q) }
+
+-- of a source that had this input, and has this much left
+going_known : {e₀ e : Engine} {l : ℕ} {o₀ o : Option (List ℕ)} {part input rest : List ℕ} (g : Going e₀ (Some input) o₀ e l (Some rest) o part) → replies e₀ (calls_of input) ≡ g.written ++ replies e (calls_of (part ++ rest))
+going_known {e₀ = e₀} {rest = rest} g = ap (λ (l : List ℕ). replies e₀ (calls_of l)) g.consumed ∙ g.completed rest
 
 ltb-same : (a b : ℕ) → a ≡ b → ltb a b ≡ false
 ltb-same a b q = le-ltb a b (omega arith)
@@ -238,17 +245,19 @@ kept_feedless left q = rw (ltb-same (feed_at left) (length left) q) (no_feed_tak
 pub going_on : (e₀ e e₁ : Engine) (l l₁ : ℕ) (s₀ s s₁ o₀ o o₁ : Option (List ℕ)) (part got : List ℕ) (taken : ℕ) → Going e₀ s₀ o₀ e l s o part → Answered part e e₁ l l₁ o o₁ taken
     → feed_at (drop taken part) ≡ length (drop taken part) → Consumes s s₁ got → Going e₀ s₀ o₀ e₁ l₁ s₁ o₁ (kept_of (drop taken part) ++ got)
 unfolding more
-going_on e₀ e e₁ l l₁ None s s₁ o₀ o o₁ part got taken g a q c = tt
-going_on e₀ e e₁ l l₁ (Some input) None s₁ o₀ o o₁ part got taken g a q c = absurd g
-going_on e₀ e e₁ l l₁ (Some input) (Some rest) None o₀ o o₁ part got taken g a q c = absurd c
-going_on e₀ e e₁ l l₁ (Some input) (Some rest) (Some rest₁) o₀ o o₁ part got taken (written, w, counted, said) a q c = (
-  written ++ a.written,
-  Appends-trans o₀ o o₁ written a.written w a.appended,
-  a.counted ∙ counted_more 0 l written a.written counted,
-  said
-      ∙ ap (λ (l : List ℕ). written ++ l) (a.completed rest ∙ ap (λ (l : List ℕ). a.written ++ l) (sym (more_kept e₁ left rest q) ∙ ap (λ (l : List ℕ). more e₁ (kept_of left ++ l)) c ∙ ap (more e₁) (sym (append_assoc (kept_of left) got rest₁))))
-      ∙ sym (append_assoc written a.written _),
-)
+going_on e₀ e e₁ l l₁ s₀ s s₁ o₀ o o₁ part got taken g a q c =
+    record {
+      read = g.read ++ got;
+      consumed = Consumes-trans s₀ s s₁ g.read got g.consumed c;
+      written = g.written ++ a.written;
+      appended = Appends-trans o₀ o o₁ g.written a.written g.appended a.appended;
+      counted = a.counted ∙ counted_more 0 l g.written a.written g.counted;
+      completed = λ rest.
+          ap (more e₀) (append_assoc g.read got rest)
+          ∙ g.completed (got ++ rest)
+          ∙ ap (λ (l : List ℕ). g.written ++ l) (a.completed (got ++ rest) ∙ ap (λ (l : List ℕ). a.written ++ l) (sym (more_kept e₁ left (got ++ rest) q) ∙ ap (more e₁) (sym (append_assoc (kept_of left) got rest))))
+          ∙ sym (append_assoc g.written a.written _);
+    }
   where
     left : List ℕ
     left = drop taken part
@@ -264,24 +273,39 @@ pub going_done : (e₀ e e₁ : Engine) (l l₁ : ℕ) (s₀ s s₁ o₀ o o₁ 
     → IfSome s₀ (λ input. Appends o₀ o₂ (replies e₀ (calls_of input)))
 unfolding more
 going_done e₀ e e₁ l l₁ None s s₁ o₀ o o₁ o₂ part taken g a q c n w = tt
-going_done e₀ e e₁ l l₁ (Some input) None s₁ o₀ o o₁ o₂ part taken g a q c n w = absurd g
+going_done e₀ e e₁ l l₁ (Some input) None s₁ o₀ o o₁ o₂ part taken g a q c n w = absurd g.consumed
 going_done e₀ e e₁ l l₁ (Some input) (Some rest) None o₀ o o₁ o₂ part taken g a q c n w = absurd c
-going_done e₀ e e₁ l l₁ (Some input) (Some rest) (Some rest₁) o₀ o o₁ o₂ part taken (written, v, counted, said) a q c n w =
-    subst (Appends o₀ o₂) (sym whole) (Appends-trans o₀ o₁ o₂ (written ++ a.written) _ (Appends-trans o₀ o o₁ written a.written v a.appended) w)
+going_done e₀ e e₁ l l₁ (Some input) (Some rest) (Some rest₁) o₀ o o₁ o₂ part taken g a q c n w =
+    subst (Appends o₀ o₂) (sym whole) (Appends-trans o₀ o₁ o₂ (g.written ++ a.written) _ (Appends-trans o₀ o o₁ g.written a.written g.appended a.appended) w)
   where
     left : List ℕ
     left = drop taken part
 
-    whole : replies e₀ (calls_of input) ≡ (written ++ a.written) ++ ending (length (kept_of left))
-    whole = said ∙ ap (λ (l : List ℕ). written ++ l) (a.completed rest ∙ ap (λ (l : List ℕ). a.written ++ l) (last_answer e₁ left rest rest₁ q c n)) ∙ sym (append_assoc written a.written _)
+    whole : replies e₀ (calls_of input) ≡ (g.written ++ a.written) ++ ending (length (kept_of left))
+    whole = going_known g ∙ ap (λ (l : List ℕ). g.written ++ l) (a.completed rest ∙ ap (λ (l : List ℕ). a.written ++ l) (last_answer e₁ left rest rest₁ q c n)) ∙ sym (append_assoc g.written a.written _)
+
+-- where a failure ends it with the part still held, its answers written as far as they are
+pub going_drawn : (e₀ e : Engine) (l : ℕ) (s₀ s s₁ o₀ o o₁ : Option (List ℕ)) (part further : List ℕ) → Going e₀ s₀ o₀ e l s o part → length part ≤ 65536 → Consumes s s₁ [] → Appends o o₁ further → Drawn e₀ s₀ s₁ o₀ o₁
+going_drawn e₀ e l s₀ s s₁ o₀ o o₁ part further g few c w =
+    record {
+      read = g.read;
+      consumed = subst (Consumes s₀ s₁) (append-nil g.read) (Consumes-trans s₀ s s₁ g.read [] g.consumed c);
+      held = part;
+      few = omega (arith, few);
+      after = e;
+      answered = g.written;
+      completed = g.completed;
+      further = further;
+      appended = Appends-trans o₀ o o₁ g.written further g.appended w;
+    }
 
 -- what fails with the answers to a part, and all that is left behind it, fails with those to the whole input
 pub going_failed : (e₀ e : Engine) (l : ℕ) (s₀ s o₀ o o₁ : Option (List ℕ)) (part : List ℕ) (failure : Failure) → Going e₀ s₀ o₀ e l s o part → IfSome s (λ rest. Begun l (replies e (calls_of (part ++ rest))) o o₁ failure)
     → IfSome s₀ (λ input. Begun 0 (replies e₀ (calls_of input)) o₀ o₁ failure)
 going_failed e₀ e l None s o₀ o o₁ part failure g b = tt
-going_failed e₀ e l (Some input) None o₀ o o₁ part failure g b = absurd g
-going_failed e₀ e l (Some input) (Some rest) o₀ o o₁ part failure (written, w, counted, said) b =
-    begun_behind 0 l _ written _ [] o₀ o o₁ failure w counted (said ∙ ap (λ (r : List ℕ). written ++ r) (sym (append-nil _))) b
+going_failed e₀ e l (Some input) None o₀ o o₁ part failure g b = absurd g.consumed
+going_failed e₀ e l (Some input) (Some rest) o₀ o o₁ part failure g b =
+    begun_behind 0 l _ g.written _ [] o₀ o o₁ failure g.appended g.counted (going_known g ∙ ap (λ (r : List ℕ). g.written ++ r) (sym (append-nil _))) b
 
 -- the answers to the part can't all be written
 pub going_short : (e₀ e : Engine) (l : ℕ) (s₀ s o₀ o o₁ : Option (List ℕ)) (part : List ℕ) (failure : Failure) → Going e₀ s₀ o₀ e l s o part → ((rest : List ℕ) → Begun l (replies e (calls_of (part ++ rest))) o o₁ failure)
@@ -297,9 +321,9 @@ going_unread e₀ e e₁ l l₁ s₀ s o₀ o o₁ part taken failure g a t =
 -- no more turns are made
 pub going_stopped : (e₀ e : Engine) (l : ℕ) (s₀ s o₀ o : Option (List ℕ)) (part : List ℕ) (failure : Failure) → Going e₀ s₀ o₀ e l s o part → lines_of failure ≡ l → IfSome s₀ (λ input. Begun 0 (replies e₀ (calls_of input)) o₀ o failure)
 going_stopped e₀ e l None s o₀ o part failure g t = tt
-going_stopped e₀ e l (Some input) None o₀ o part failure g t = absurd g
-going_stopped e₀ e l (Some input) (Some rest) o₀ o part failure (written, w, counted, said) t =
-    record { written = written; begins = starts_so _ written _ said; appended = w; told = t ∙ counted }
+going_stopped e₀ e l (Some input) None o₀ o part failure g t = absurd g.consumed
+going_stopped e₀ e l (Some input) (Some rest) o₀ o part failure g t =
+    record { written = g.written; begins = starts_so _ g.written _ (going_known g); appended = g.appended; told = t ∙ g.counted }
 
 -- the source is at its end, and the answer to the last line can't be written
 last_failed : (e e₁ : Engine) (l l₁ : ℕ) (s s₁ o o₁ o₂ : Option (List ℕ)) (part : List ℕ) (taken : ℕ) (failure : Failure) → Answered part e e₁ l l₁ o o₁ taken → feed_at (drop taken part) ≡ length (drop taken part)
@@ -357,6 +381,10 @@ module _ (e₀ e e₁ : Engine) (l₀ l₁ : ℕ) (s₀ s s₁ o₀ o o₁ : Opt
   ended_short o₂ m f n is failure b =
       let last : Begun l₁ (ending (length (kept_of left))) o₁ o₂ failure = subst (λ (m : ℕ). Begun l₁ (ending m) o₁ o₂ failure) (is ∙ many ∙ ap length kept_is) b in
       going_failed e₀ e l₀ s₀ s o₀ o o₂ (take filled input) failure g (last_failed e e₁ l₀ l₁ s s₁ o o₁ o₂ (take filled input) taken failure a q (none_read f) n last)
+
+  pub ended_drawn : (o₂ : Option (List ℕ)) (m : ℕ) → place ≤ k → filled ≤ 65536 → (failure : Failure) → Begun l₁ (ending m) o₁ o₂ failure → Drawn e₀ s₀ s₁ o₀ o₂
+  ended_drawn o₂ m f few failure b =
+      going_drawn e₀ e l₀ s₀ s s₁ o₀ o o₂ (take filled input) (a.written ++ b.written) g (omega (arith, few, length-take filled input)) (none_read f) (Appends-trans o o₁ o₂ a.written b.written a.appended b.appended)
 
 -- so little is kept of a part without a whole line that there is room behind it
 pub room_behind : (input : List ℕ) (taken filled k : ℕ) → feed_at (drop taken (take filled input)) ≡ length (drop taken (take filled input)) → k ≡ length (kept_of (between input taken filled)) → k ≤ kept

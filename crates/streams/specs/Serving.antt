@@ -2,7 +2,7 @@
 -- Assumes nothing.
 use Rattle.std.specs.Prelude.{ℕ, ◌≤◌, ◌≡◌, List, ◌++◌, length, drop, Option}
 use Rattle.std.specs.Io.{StartsWith}
-use Rattle.std.specs.Io.KnownBytes.{Appends}
+use Rattle.std.specs.Io.KnownBytes.{Appends, Consumes}
 use Rattle.model.specs.declared.Engine.{Engine}
 use Rattle.protocol.specs.Run.{calls_of, replies}
 use Rattle.streams.specs.Feeds.{counted_on}
@@ -23,3 +23,15 @@ pub record Begun (lines_before : ℕ) (whole : List ℕ) (old new : Option (List
   pub begins : StartsWith whole written
   pub appended : Appends old new written
   pub told : lines_of failure ≡ counted_on lines_before written
+
+-- what a source has lost where a failure ends it: all of it is answered, and the answers are written, but for what is `held`, no more than a buffer. Whatever comes behind it, what the engine then answers to that and what is held completes the answers; `further` is written of those
+pub record Drawn (before : Engine) (source_old source_new old new : Option (List ℕ)) : Type 0 where
+  pub read : List ℕ
+  pub consumed : Consumes source_old source_new read
+  pub held : List ℕ
+  pub few : length held ≤ 65536
+  pub after : Engine
+  pub answered : List ℕ
+  pub completed : (rest : List ℕ) → replies before (calls_of (read ++ rest)) ≡ answered ++ replies after (calls_of (held ++ rest))
+  pub further : List ℕ
+  pub appended : Appends old new (answered ++ further)

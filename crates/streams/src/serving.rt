@@ -1,11 +1,12 @@
 // An engine that is run on what a source has, in pieces of any size.
 ghost use Rattle.std.specs.Prelude.{ℕ, ◌≡◌, ◌≤◌, ◌<◌, List, ◌++◌, length, take, drop, OnOk, IfOk, IfErr, IfSome};
 ghost use Rattle.std.specs.Io.KnownBytes.{Appends, Consumes, IsAtEnd, Keeps};
+ghost use Rattle.model.specs.State.{fresh as State·fresh};
 ghost use Rattle.protocol.specs.Run.{calls_of, feed_at, replies};
 ghost use Rattle.protocol.specs.Run.{run as Run·run};
 ghost use Rattle.output.specs.Output.{ending};
 ghost use Rattle.streams.specs.Feeds.{counted_on};
-ghost use Rattle.streams.specs.Serving.{Answered, Begun};
+ghost use Rattle.streams.specs.Serving.{Answered, Begun, Drawn};
 
 use super::counting::lines_and;
 use super::failure::Failure;
@@ -100,6 +101,7 @@ pub fn serve<R: Read, W: Write>(
 ) -> Result<(), Failure>
     ensures all { OnOk result (IfSome (R.remaining source.old) (λ input. Appends (W.contents output.old) (W.contents output.new) (replies engine.old (calls_of input)))) }
     ensures begun { IfErr result (λ failure. IfSome (R.remaining source.old) (λ input. Begun 0 (replies engine.old (calls_of input)) (W.contents output.old) (W.contents output.new) failure)) }
+    ensures drawn { IfErr result (λ _. Drawn engine.old (R.remaining source.old) (R.remaining source.new) (W.contents output.old) (W.contents output.new)) }
 {
     let mut input = [0u8; BUFFER];
     let mut answers = [0u8; BUFFER];
@@ -124,6 +126,7 @@ pub fn serve<R: Read, W: Write>(
 pub fn run<R: Read, W: Write>(source: &mut R, output: &mut W) -> Result<(), Failure>
     ensures all { OnOk result (IfSome (R.remaining source.old) (λ input. Appends (W.contents output.old) (W.contents output.new) (Run·run input))) }
     ensures begun { IfErr result (λ failure. IfSome (R.remaining source.old) (λ input. Begun 0 (Run·run input) (W.contents output.old) (W.contents output.new) failure)) }
+    ensures drawn { IfErr result (λ _. Drawn State·fresh (R.remaining source.old) (R.remaining source.new) (W.contents output.old) (W.contents output.new)) }
 {
     serve(&mut frames::fresh(), source, output)
 }
