@@ -22,7 +22,7 @@ pub enum Outcome {
 }
 
 // Whether two texts have the same bytes.
-#[tactic(auto, using(crate::proofs::Going::same_bytes, crate::proofs::Going::other_length))]
+#[tactic(auto, using(crate::proofs::Going::same_bytes, crate::proofs::Going::other_length, std::proofs::lemmas::List::take_all))]
 fn is_same(a: &[u8], b: &[u8]) -> bool
     ensures { result ≡ same a.now b.now }
 {
