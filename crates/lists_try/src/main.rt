@@ -2,15 +2,19 @@
 //! lines anywhere; the answers go to standard output.
 #![tactic(auto)]
 
-ghost use Rattle.std.specs.Prelude.{◌≤◌, length, IfOk};
+ghost use Rattle.std.specs.Prelude.{◌≤◌, length};
 
 use frames::LONGEST;
+use std::env::{Env, FillError};
 use std::fs::File;
-use std::io::{Print, Read};
-use std::{env, io};
+use std::io::{Error, ErrorKind, Print, Read};
+use std::{io, str};
 
 // How many bytes of a file are held at a time.
 const PIECE: usize = 1000;
+
+// How many bytes the name of a file may have.
+const NAME: usize = 4096;
 
 // Room for one answer of any length and not for two such, so that a piece is not taken at once: what is
 // left of it is kept, and more is read behind it.
@@ -22,24 +26,30 @@ fn first(n: usize, bytes: &[u8]) -> &[u8] {
     &bytes[..n.min(bytes.len())]
 }
 
-// Reads behind the first n bytes of a buffer, and gives the place behind what is read.
-fn read_behind(file: &mut File, input: &mut [u8], n: usize) -> io::Result<usize>
-    ensures { IfOk result (λ end. end ≤ length input.new) }
+// Reads behind the first n bytes of a buffer, and gives the place behind what is read, and why nothing was
+// where a read failed.
+fn read_behind(file: &mut File, input: &mut [u8], n: usize) -> (usize, io::Result<()>)
+    ensures { result.0 ≤ length input.new }
 {
     let from = n.min(input.len());
-    let read = file.read(&mut input[from..])?;
-    Ok(from + read)
+    match file.read(&mut input[from..]) {
+        Ok(read) => (from + read, Ok(())),
+        Err(reason) => (from, Err(reason)),
+    }
 }
 
-// Runs the list in an open file, from a fresh engine.
+// Runs the list in an open file, from a fresh engine. Where a read fails, what is held is answered all the
+// same.
 // A buffer and how much of it is filled, since `frames::keep` is tried here as a maker calls it.
 fn run(rt: HostRuntime, file: &mut File) -> io::Result<()> {
     let mut engine = frames::fresh();
     let mut input = [0u8; PIECE];
     let mut output = [0u8; ROOM];
     let mut len = 0usize;
+    let mut done = Ok(());
     for _ in 0..u64::MAX {
-        let filled = read_behind(file, &mut input, len)?;
+        let (filled, read) = read_behind(file, &mut input, len);
+        done = done.and(read);
         let fed = frames::feed(&mut engine, &input[..filled], &mut output);
         rt.write_all(first(fed.written, &output))?;
         if filled <= len && fed.consumed == 0 {
@@ -48,21 +58,32 @@ fn run(rt: HostRuntime, file: &mut File) -> io::Result<()> {
         len = frames::keep(&mut input, fed.consumed, filled);
     }
     let last = frames::finish(len, &mut output);
-    rt.write_all(first(last.unwrap_or(0), &output))
+    rt.write_all(first(last.unwrap_or(0), &output))?;
+    done
 }
 
-// Runs the list in the file that a path names.
-fn run_named(rt: HostRuntime, path: &str) -> io::Result<()> {
-    run(rt, &mut File::open(&rt, path)?)
+// Runs the list in the file that these bytes name. What is no text names none.
+fn run_named(rt: HostRuntime, name: &[u8]) -> io::Result<()> {
+    match str::from_utf8(name) {
+        Ok(path) => run(rt, &mut File::open(&rt, path)?),
+        Err(_) => Err(Error::from(ErrorKind::InvalidFilename)),
+    }
 }
 
-// A list that can't be run to its end is said, and those behind it are run.
+// A list that can't be run to its end is said, and those behind it are run. A word that is too long for a
+// name names no file.
 fn main(rt: HostRuntime) -> io::Result<()> {
     let mut done = Ok(());
-    for path in env::args(&rt)?.skip(1) {
-        if let Err(reason) = run_named(rt, path.as_str()) {
+    for i in 1..usize::MAX {
+        let mut word = [0u8; NAME];
+        let run = match rt.arg(i, &mut word) {
+            Ok(len) => run_named(rt, first(len, &word)),
+            Err(FillError::TooLong) => Err(Error::from(ErrorKind::InvalidFilename)),
+            Err(FillError::NotPresent) => break,
+        };
+        if let Err(reason) = run {
             // Where that can't be written there is nobody to tell.
-            let _ = eprintln!(rt; "{path}: {reason}");
+            let _ = eprintln!(rt; "word {i}: {reason}");
             done = Err(reason);
         }
     }
