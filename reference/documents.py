@@ -55,12 +55,10 @@ def recordings():
     """The inputs of the examples of docs/REPLAY.md, with what is printed of each."""
     recording = b""
     text = pathlib.Path("docs/REPLAY.md").read_text()
-    for line in text[text.index("## Examples"):].splitlines():
-        if line.startswith("## ") and line != "## Examples":
-            return
+    section = text[text.index("## Examples\n") :].split("\n## ")[0]
+    rows = [line for line in section.splitlines() if line.startswith("|")]
+    for line in rows[2:]:
         cells = cells_of(line)
-        if not line.startswith("|") or not re.fullmatch("`[0-9a-f]+`", cells[1]):
-            continue
         words = re.findall(r"`([^`]*)`", cells[0])
         number = re.search(r"([0-9,]+) bytes|line ([0-9]+)", cells[0])
         if cells[0].startswith("the same with "):
@@ -73,7 +71,8 @@ def recordings():
             given = recording = pathlib.Path(words[-1]).read_bytes()
         else:
             given = "".join(words).replace("\\n", "\n").encode()
-        yield cells[0], given, cells[1].strip("`")
+        printed = re.fullmatch("`([0-9a-f]+)`", cells[1])
+        yield cells[0], given, printed.group(1) if printed else "a number"
 
 
 def replays(replay):
@@ -84,6 +83,8 @@ def replays(replay):
         p = subprocess.run([replay], input=given, stdout=subprocess.PIPE)
         if (p.stdout, p.returncode) != (printed.encode() + b"\n", status):
             wrong.append("%s: %r and status %d, not %s and %d" % (title, p.stdout, p.returncode, printed, status))
+    if not found:
+        wrong.append("no table of examples")
     print("REPLAY.md: %d recordings, %d differ" % (len(found), len(wrong)))
     return wrong
 
