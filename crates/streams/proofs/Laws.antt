@@ -28,7 +28,7 @@ use Rattle.frames.proofs.Endings.{finish_ending}
 use Rattle.pieces.specs.Pieces.{between}
 use Rattle.output.specs.Output.{ending, end_answer, end_written}
 use Rattle.streams.specs.Feeds.{feeds, counted_on}
-use Rattle.streams.specs.Failure.{lines_of}
+use Rattle.streams.specs.Failure.{lines_of, IsUnread}
 use Rattle.streams.specs.declared.failure.Failure.{Failure}
 use Rattle.streams.specs.Serving.{Answered, Begun, Drawn}
 use Rattle.streams.proofs.LineFeeds.{feeds_append}
@@ -42,6 +42,10 @@ on_ok (Err e) f p = tt
 pub if_err : {X E : Type 0} {P Q : E → Type 0} (r : Result X E) → ((e : E) → P e → Q e) → IfErr r P → IfErr r Q
 if_err (Ok x) f p = tt
 if_err (Err e) f p = f e p
+
+pub both_err : {X E : Type 0} (P Q : E → Type 0) (r : Result X E) → IfErr r P → IfErr r Q → IfErr r (λ e. P e × Q e)
+both_err P Q (Ok x) p q = tt
+both_err P Q (Err e) p q = (p, q)
 
 if_known : {P : List ℕ → Type 0} (s : Option (List ℕ)) → ((xs : List ℕ) → P xs) → IfSome s P
 if_known None f = tt
@@ -284,9 +288,10 @@ going_done e₀ e e₁ l l₁ (Some input) (Some rest) (Some rest₁) o₀ o o�
     whole : replies e₀ (calls_of input) ≡ (g.written ++ a.written) ++ ending (length (kept_of left))
     whole = going_known g ∙ ap (λ (l : List ℕ). g.written ++ l) (a.completed rest ∙ ap (λ (l : List ℕ). a.written ++ l) (last_answer e₁ left rest rest₁ q c n)) ∙ sym (append_assoc g.written a.written _)
 
--- where a failure ends it with the part still held, its answers written as far as they are
-pub going_drawn : (e₀ e : Engine) (l : ℕ) (s₀ s s₁ o₀ o o₁ : Option (List ℕ)) (part further : List ℕ) → Going e₀ s₀ o₀ e l s o part → length part ≤ 65536 → Consumes s s₁ [] → Appends o o₁ further → Drawn e₀ s₀ s₁ o₀ o₁
-going_drawn e₀ e l s₀ s s₁ o₀ o o₁ part further g few c w =
+-- where the answers to the part can't be written, it is held
+pub going_drawn : (e₀ e : Engine) (l : ℕ) (s₀ s s₁ o₀ o o₁ : Option (List ℕ)) (part further : List ℕ) (failure : Failure) → Going e₀ s₀ o₀ e l s o part → length part ≤ 65536 → Consumes s s₁ [] → Appends o o₁ further → (IsUnread failure → ⊥)
+    → Drawn e₀ s₀ s₁ o₀ o₁ failure
+going_drawn e₀ e l s₀ s s₁ o₀ o o₁ part further failure g few c w n =
     record {
       read = g.read;
       consumed = subst (Consumes s₀ s₁) (append-nil g.read) (Consumes-trans s₀ s s₁ g.read [] g.consumed c);
@@ -297,6 +302,24 @@ going_drawn e₀ e l s₀ s s₁ o₀ o o₁ part further g few c w =
       completed = g.completed;
       further = further;
       appended = Appends-trans o₀ o o₁ g.written further g.appended w;
+      unfinished = λ u. absurd (n u);
+    }
+
+-- where the part is answered, and no more can be read, what is left of it is held
+pub going_left : (e₀ e e₁ : Engine) (l l₁ : ℕ) (s₀ s s₁ o₀ o o₁ : Option (List ℕ)) (part : List ℕ) (taken : ℕ) (failure : Failure) → Going e₀ s₀ o₀ e l s o part → Answered part e e₁ l l₁ o o₁ taken → feed_at (drop taken part) ≡ length (drop taken part)
+    → length part ≤ 65536 → Consumes s s₁ [] → Drawn e₀ s₀ s₁ o₀ o₁ failure
+going_left e₀ e e₁ l l₁ s₀ s s₁ o₀ o o₁ part taken failure g a q few c =
+    record {
+      read = g.read;
+      consumed = subst (Consumes s₀ s₁) (append-nil g.read) (Consumes-trans s₀ s s₁ g.read [] g.consumed c);
+      held = drop taken part;
+      few = omega (arith, few, length-drop taken part);
+      after = e₁;
+      answered = g.written ++ a.written;
+      completed = λ rest. g.completed rest ∙ ap (λ (l : List ℕ). g.written ++ l) (a.completed rest) ∙ sym (append_assoc g.written a.written _);
+      further = [];
+      appended = subst (Appends o₀ o₁) (sym (append-nil (g.written ++ a.written))) (Appends-trans o₀ o o₁ g.written a.written g.appended a.appended);
+      unfinished = λ u. (q, refl);
     }
 
 -- what fails with the answers to a part, and all that is left behind it, fails with those to the whole input
@@ -317,13 +340,6 @@ pub going_unread : (e₀ e e₁ : Engine) (l l₁ : ℕ) (s₀ s o₀ o o₁ : O
     → IfSome s₀ (λ input. Begun 0 (replies e₀ (calls_of input)) o₀ o₁ failure)
 going_unread e₀ e e₁ l l₁ s₀ s o₀ o o₁ part taken failure g a t =
     going_short e₀ e l s₀ s o₀ o o₁ part failure g (λ rest. record { written = a.written; begins = starts_so _ a.written _ (a.completed rest); appended = a.appended; told = t ∙ a.counted })
-
--- no more turns are made
-pub going_stopped : (e₀ e : Engine) (l : ℕ) (s₀ s o₀ o : Option (List ℕ)) (part : List ℕ) (failure : Failure) → Going e₀ s₀ o₀ e l s o part → lines_of failure ≡ l → IfSome s₀ (λ input. Begun 0 (replies e₀ (calls_of input)) o₀ o failure)
-going_stopped e₀ e l None s o₀ o part failure g t = tt
-going_stopped e₀ e l (Some input) None o₀ o part failure g t = absurd g.consumed
-going_stopped e₀ e l (Some input) (Some rest) o₀ o part failure g t =
-    record { written = g.written; begins = starts_so _ g.written _ (going_known g); appended = g.appended; told = t ∙ g.counted }
 
 -- the source is at its end, and the answer to the last line can't be written
 last_failed : (e e₁ : Engine) (l l₁ : ℕ) (s s₁ o o₁ o₂ : Option (List ℕ)) (part : List ℕ) (taken : ℕ) (failure : Failure) → Answered part e e₁ l l₁ o o₁ taken → feed_at (drop taken part) ≡ length (drop taken part)
@@ -382,9 +398,9 @@ module _ (e₀ e e₁ : Engine) (l₀ l₁ : ℕ) (s₀ s s₁ o₀ o o₁ : Opt
       let last : Begun l₁ (ending (length (kept_of left))) o₁ o₂ failure = subst (λ (m : ℕ). Begun l₁ (ending m) o₁ o₂ failure) (is ∙ many ∙ ap length kept_is) b in
       going_failed e₀ e l₀ s₀ s o₀ o o₂ (take filled input) failure g (last_failed e e₁ l₀ l₁ s s₁ o o₁ o₂ (take filled input) taken failure a q (none_read f) n last)
 
-  pub ended_drawn : (o₂ : Option (List ℕ)) (m : ℕ) → place ≤ k → filled ≤ 65536 → (failure : Failure) → Begun l₁ (ending m) o₁ o₂ failure → Drawn e₀ s₀ s₁ o₀ o₂
-  ended_drawn o₂ m f few failure b =
-      going_drawn e₀ e l₀ s₀ s s₁ o₀ o o₂ (take filled input) (a.written ++ b.written) g (omega (arith, few, length-take filled input)) (none_read f) (Appends-trans o o₁ o₂ a.written b.written a.appended b.appended)
+  pub ended_drawn : (o₂ : Option (List ℕ)) (m : ℕ) → place ≤ k → filled ≤ 65536 → (failure : Failure) → Begun l₁ (ending m) o₁ o₂ failure × (IsUnread failure → ⊥) → Drawn e₀ s₀ s₁ o₀ o₂ failure
+  ended_drawn o₂ m f few failure (b, n) =
+      going_drawn e₀ e l₀ s₀ s s₁ o₀ o o₂ (take filled input) (a.written ++ b.written) failure g (omega (arith, few, length-take filled input)) (none_read f) (Appends-trans o o₁ o₂ a.written b.written a.appended b.appended) n
 
 -- so little is kept of a part without a whole line that there is room behind it
 pub room_behind : (input : List ℕ) (taken filled k : ℕ) → feed_at (drop taken (take filled input)) ≡ length (drop taken (take filled input)) → k ≡ length (kept_of (between input taken filled)) → k ≤ kept

@@ -1,6 +1,6 @@
 -- Why a program could not go on.
 -- Assumes nothing.
-use Rattle.std.specs.Prelude.{ℕ, ◌≡◌}
+use Rattle.std.specs.Prelude.{ℕ, ◌≡◌, ⊤}
 use Rattle.std.specs.IoError.{error_kind}
 use Rattle.std.specs.declared.io.ErrorKind.TheVariants.{BrokenPipe}
 use Rattle.streams.specs.declared.failure.Failure.{Failure}
@@ -15,3 +15,8 @@ lines_of (Write lines reason) = lines
 abbrev pub IsClosedPipe : Failure → Type 0
 IsClosedPipe (Read lines reason) = ⊥
 IsClosedPipe (Write lines reason) = error_kind reason ≡ BrokenPipe
+
+-- more could not be read
+abbrev pub IsUnread : Failure → Type 0
+IsUnread (Read lines reason) = ⊤
+IsUnread (Write lines reason) = ⊥

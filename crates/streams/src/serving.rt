@@ -6,6 +6,7 @@ ghost use Rattle.protocol.specs.Run.{calls_of, feed_at, replies};
 ghost use Rattle.protocol.specs.Run.{run as Run·run};
 ghost use Rattle.output.specs.Output.{ending};
 ghost use Rattle.streams.specs.Feeds.{counted_on};
+ghost use Rattle.streams.specs.Failure.{IsUnread};
 ghost use Rattle.streams.specs.Serving.{Answered, Begun, Drawn};
 
 use super::counting::lines_and;
@@ -37,6 +38,7 @@ fn show<W: Write>(output: &mut W, answers: &[u8], lines: u64) -> Result<u64, Fai
     ensures all { OnOk result (Appends (W.contents output.old) (W.contents output.new) answers.now) }
     ensures counted { IfOk result (λ n. n ≡ counted_on lines answers.now) }
     ensures begun { IfErr result (Begun lines answers.now (W.contents output.old) (W.contents output.new)) }
+    ensures unwritten { IfErr result (λ failure. IsUnread failure → ⊥) }
 {
     match write_all(output, answers) {
         Ok(()) => Ok(lines_and(lines, answers)),
@@ -59,6 +61,7 @@ fn answer<W: Write>(
     ensures answered { IfOk result (Answered part.now engine.old engine.new lines.old lines.new (W.contents output.old) (W.contents output.new)) }
     ensures unfinished { IfOk result (λ taken. feed_at (drop taken part.now) ≡ length (drop taken part.now)) }
     ensures begun { IfErr result (λ failure. (rest : List ℕ) → Begun lines.old (replies engine.old (calls_of (part.now ++ rest))) (W.contents output.old) (W.contents output.new) failure) }
+    ensures unwritten { IfErr result (λ failure. IsUnread failure → ⊥) }
 {
     // Read, so that it is known to fit 64 bits.
     let _before = *lines;
@@ -83,6 +86,7 @@ fn end<W: Write>(
 ) -> Result<(), Failure>
     ensures all { OnOk result (Appends (W.contents output.old) (W.contents output.new) (ending len)) }
     ensures begun { IfErr result (Begun lines (ending len) (W.contents output.old) (W.contents output.new)) }
+    ensures unwritten { IfErr result (λ failure. IsUnread failure → ⊥) }
 {
     if let Some(n) = frames::finish(len, answers) {
         show(output, &answers[..n], lines)?;
@@ -101,7 +105,7 @@ pub fn serve<R: Read, W: Write>(
 ) -> Result<(), Failure>
     ensures all { OnOk result (IfSome (R.remaining source.old) (λ input. Appends (W.contents output.old) (W.contents output.new) (replies engine.old (calls_of input)))) }
     ensures begun { IfErr result (λ failure. IfSome (R.remaining source.old) (λ input. Begun 0 (replies engine.old (calls_of input)) (W.contents output.old) (W.contents output.new) failure)) }
-    ensures drawn { IfErr result (λ _. Drawn engine.old (R.remaining source.old) (R.remaining source.new) (W.contents output.old) (W.contents output.new)) }
+    ensures drawn { IfErr result (Drawn engine.old (R.remaining source.old) (R.remaining source.new) (W.contents output.old) (W.contents output.new)) }
 {
     let mut input = [0u8; BUFFER];
     let mut answers = [0u8; BUFFER];
@@ -116,6 +120,8 @@ pub fn serve<R: Read, W: Write>(
             Err(reason) => return Err(Failure::Read { lines, reason }),
         }
     }
+    // So many reads are never made; but here too an unfinished line alone is left.
+    answer(engine, &input[..filled], &mut answers, output, &mut lines)?;
     let reason = Error::from(ErrorKind::Interrupted);
     Err(Failure::Read { lines, reason })
 }
@@ -126,7 +132,7 @@ pub fn serve<R: Read, W: Write>(
 pub fn run<R: Read, W: Write>(source: &mut R, output: &mut W) -> Result<(), Failure>
     ensures all { OnOk result (IfSome (R.remaining source.old) (λ input. Appends (W.contents output.old) (W.contents output.new) (Run·run input))) }
     ensures begun { IfErr result (λ failure. IfSome (R.remaining source.old) (λ input. Begun 0 (Run·run input) (W.contents output.old) (W.contents output.new) failure)) }
-    ensures drawn { IfErr result (λ _. Drawn State·fresh (R.remaining source.old) (R.remaining source.new) (W.contents output.old) (W.contents output.new)) }
+    ensures drawn { IfErr result (Drawn State·fresh (R.remaining source.old) (R.remaining source.new) (W.contents output.old) (W.contents output.new)) }
 {
     serve(&mut frames::fresh(), source, output)
 }
