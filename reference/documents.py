@@ -56,7 +56,7 @@ def recordings():
     recording = b""
     text = pathlib.Path("docs/REPLAY.md").read_text()
     section = text[text.index("## Examples\n") :].split("\n## ")[0]
-    rows = [line for line in section.splitlines() if line.startswith("|")]
+    rows = [line for line in section.splitlines() if line.lstrip().startswith("|")]
     for line in rows[2:]:
         cells = cells_of(line)
         words = re.findall(r"`([^`]*)`", cells[0])
